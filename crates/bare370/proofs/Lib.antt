@@ -3,4 +3,3 @@ mod Noted
 mod Forgotten
 mod Stated
 mod Turned
-mod Programs

@@ -1,7 +1,8 @@
 -- What the words of the program name where it follows a script.
 use Rattle.std.specs.Prelude.{◌≡◌, ℕ, List, map, codes, Some}
 use Rattle.clap.specs.Words.{App, Row, all_of, new_app, one_of, with_rule}
-use Rattle.programs.specs.Arguments.{IsFlag, follow_rule, save_rule, terminals_rule, texts_of}
+use Rattle.program_host.specs.Words.{IsFlag, texts_of}
+use Rattle.programs.specs.Arguments.{follow_rule, save_rule, terminals_rule}
 use Rattle.programs.specs.Arguments.{volume_rule}
 use Rattle.bare370.specs.Options.{storage_named, storage_rule}
 use Rattle.bare370.specs.declared.follow_arguments.MachineFollowOptions.{MachineFollowOptions}

@@ -3,7 +3,8 @@ use Rattle.std.specs.Prelude.{◌≡◌, ℕ, Bool, true, List, map, codes, Opti
 use Rattle.std.specs.Option.{option_and_then}
 use Rattle.clap.specs.Words.{App, Row, Rule, all_of, first_of, new_app, new_rule, one_of, with_rule}
 use Rattle.cp_directory.specs.Sizes.{storage_of}
-use Rattle.programs.specs.Arguments.{IsFlag, save_rule, script_rule, texts_of, volume_rule}
+use Rattle.program_host.specs.Words.{IsFlag, texts_of}
+use Rattle.programs.specs.Arguments.{save_rule, script_rule, volume_rule}
 use Rattle.bare370.specs.declared.arguments.BareOptions.{BareOptions}
 
 -- the first word after the program's name: the size of the storage

@@ -1,7 +1,7 @@
 -- What the program does with its files.
 use Rattle.std.specs.Prelude.{◌≡◌, ◌⊎◌, ◌++◌, ◌≤◌, ℕ, ◌*◌, Bool, true, false, codes, List, []}
 use Rattle.std.specs.Prelude.{length, map, replicate, Option, Some}
-use Rattle.clap.specs.Words.{all_of}
+use Rattle.clap.specs.Words.{Row, all_of}
 use Rattle.s370_store.specs.Memory.{memory_of}
 use Rattle.s370_subchannels.specs.declared.subchannel.Subchannel.{Subchannel}
 use Rattle.ckd_volume.specs.Unit.{volume_of}
@@ -10,13 +10,16 @@ use Rattle.machine_panel.specs.Machine.{unused}
 use Rattle.machine_devices.specs.Devices.{AreAttached, can_attach, devices_new, places_of}
 use Rattle.machine_devices.specs.declared.attaching.AttachError.{AttachError}
 use Rattle.machine_devices.specs.declared.attaching.AttachError.TheVariants as attaching
-use Rattle.sessions.specs.declared.schedule.Detail.{Detail}
-use Rattle.sessions.specs.declared.schedule.Detail.TheVariants.{Whole, Terminals}
-use Rattle.programs.specs.Arguments.{IsUnbegun, asks_to_follow, is_taken, rows_named, texts_of}
-use Rattle.programs.specs.Opened.{Adds, AddsFront, AreImagesAt, Deed, opens}
-use Rattle.programs.specs.Parts.{FailureCounts}
-use Rattle.programs.specs.Runs.{IsFailedFollowing, IsFailedRun, IsFollowing, IsRun, saved_of}
+use Rattle.program_host.specs.Words.{is_taken, rows_named, texts_of}
+use Rattle.programs.specs.Arguments.{ByForm}
+use Rattle.program_host.specs.Deeds.{Adds, Deed, opens}
+use Rattle.programs.specs.Opened.{AreImagesAt, Unmaking}
+use Rattle.programs.specs.Runs.{saved_of}
 use Rattle.programs.specs.Unread.{IsUnread}
+use Rattle.programs.specs.Whole.{FollowFails, Follows, HostStreams, IsFailedToFollow, IsFailedToRun}
+use Rattle.programs.specs.Whole.{IsFailedWholeFollowing, IsFailedWholeRun, IsFollowingNamed}
+use Rattle.programs.specs.Whole.{IsRunNamed, IsWholeFollowing, IsWholeRun, PlayFails, Plays}
+use Rattle.programs.specs.Whole.{detail_of}
 use Rattle.programs.specs.declared.faults.Failure.{Failure}
 use Rattle.programs.specs.declared.faults.Failure.TheVariants as failures
 use Rattle.bare370.specs.FollowOptions.{IsNamed as IsFollowNamed, command_of as follow_command_of}
@@ -43,10 +46,12 @@ pub record IsMade (blocks : ℕ) (volumes : List VolumeFormat) (a : Alone) : Typ
 
 -- the same, of the images at these paths
 pub record IsMachineOf {F : Type 0} (Gives : List ℕ → F → Type 0) (remaining : F → Option (List ℕ))
-    (paths : List (List ℕ)) (blocks : ℕ) (a : Alone) : Type 0 where
+    (paths : List (List ℕ)) (blocks : ℕ) (deeds_old deeds_new : Option (List Deed))
+    (a : Alone) : Type 0 where
   pub volumes : List VolumeFormat
   pub images : AreImagesAt Gives remaining paths volumes
   pub made : IsMade blocks volumes a
+  pub deeds : Adds deeds_old deeds_new (opens paths)
 
 -- the addresses of the disks over these volumes are not apart from all others
 abbrev pub AreUnattached : List VolumeFormat → Type 0
@@ -61,26 +66,24 @@ IsUnmade volumes failure =
 
 -- each image was read, and no machine was made of their volumes
 pub record IsWithoutMachine {F : Type 0} (Gives : List ℕ → F → Type 0)
-    (remaining : F → Option (List ℕ)) (paths : List (List ℕ)) (failure : Failure) : Type 0 where
+    (remaining : F → Option (List ℕ)) (paths : List (List ℕ))
+    (deeds_old deeds_new : Option (List Deed)) (failure : Failure) : Type 0 where
   pub volumes : List VolumeFormat
   pub images : AreImagesAt Gives remaining paths volumes
+  pub deeds : Adds deeds_old deeds_new (opens paths)
   pub unmade : IsUnmade volumes failure
 
 -- which of the two steps has failed, and why
 abbrev pub IsNoMachine : {F : Type 0} → (List ℕ → F → Type 0) → (F → Option (List ℕ)) → (F → ℕ)
-    → List (List ℕ) → Failure → Type 0
-IsNoMachine Gives remaining count paths failure = IsUnread Gives remaining count paths failure
-    ⊎ IsWithoutMachine Gives remaining paths failure
+    → List (List ℕ) → Unmaking
+IsNoMachine Gives remaining count paths deeds_old deeds_new failure =
+    IsUnread Gives remaining count paths deeds_old deeds_new failure
+    ⊎ IsWithoutMachine Gives remaining paths deeds_old deeds_new failure
 
 -- the failure of a program for an error of attaching disks
 abbrev pub attach_failure : AttachError → Failure
 attach_failure attaching.Memory = failures.Memory
 attach_failure attaching.Address = failures.Usage
-
--- which lines of turns a transcript has
-abbrev pub detail_of : Bool → Detail
-detail_of true = Terminals
-detail_of false = Whole
 
 -- how many blocks of 2048 bytes so many pages have
 abbrev pub blocks_of : ℕ → ℕ
@@ -88,174 +91,98 @@ blocks_of pages = 2 * pages
 
 -- ---- the whole
 
+-- the paths of volumes that are saved, if that is asked for
+abbrev pub saved_paths : BareOptions → List (List ℕ)
+saved_paths options = saved_of options.save (map (λ path. path.now) options.volumes.items)
+
 -- a machine was made, the script was played on that, and the images were saved if that was asked
 -- for
-pub record IsWholeRun {F : Type 0} (Gives : List ℕ → F → Type 0) (remaining : F → Option (List ℕ))
-    (options : BareOptions) (deeds_old deeds_new : Option (List Deed))
-    (writer_old writer_new : Option (List ℕ)) : Type 0 where
-  pub first : Alone
-  pub last : Alone
-  pub between : Option (List Deed)
-  pub made : IsMachineOf Gives remaining (map (λ path. path.now) options.volumes.items)
-      (blocks_of options.storage) first
-  pub read : Adds deeds_old between (opens (map (λ path. path.now) options.volumes.items))
-  pub run : IsRun machine_goes machine_volumes Gives remaining options.script.now
-      (saved_of options.save (map (λ path. path.now) options.volumes.items)) first last between
-      deeds_new writer_old writer_new
+abbrev pub IsMachineRun : {F : Type 0} → (List ℕ → F → Type 0) → (F → Option (List ℕ))
+    → Plays BareOptions
+IsMachineRun Gives remaining options = IsWholeRun machine_goes machine_volumes
+    (IsMachineOf Gives remaining (map (λ path. path.now) options.volumes.items)
+    (blocks_of options.storage))
+    Gives remaining options.script.now (saved_paths options)
 
--- no machine was made, for a cause, and nothing was written or saved; or one was, and the script
--- was not played or an image not saved
-abbrev pub IsFailedWholeRun : {F : Type 0} → (List ℕ → F → Type 0) → (F → Option (List ℕ))
-    → (F → ℕ) → BareOptions → Option (List Deed) → Option (List Deed) → Option (List ℕ)
-    → Option (List ℕ) → ℕ → ℕ → Failure → Type 0
-IsFailedWholeRun Gives remaining count options deeds_old deeds_new writer_old writer_new
-    failed_old failed_new failure =
-    (AddsFront deeds_old deeds_new (opens (map (λ path. path.now) options.volumes.items))
-    × (writer_new ≡ writer_old)
-    × IsNoMachine Gives remaining count (map (λ path. path.now) options.volumes.items) failure)
-    ⊎ ((first : Alone) × (last : Alone) × (between : Option (List Deed))
-    × IsMachineOf Gives remaining (map (λ path. path.now) options.volumes.items)
-    (blocks_of options.storage) first
-    × Adds deeds_old between (opens (map (λ path. path.now) options.volumes.items))
-    × IsFailedRun machine_goes machine_volumes Gives remaining count options.script.now
-    (saved_of options.save (map (λ path. path.now) options.volumes.items)) first last between
-    deeds_new writer_old writer_new failed_old failed_new failure)
+-- no machine was made, for a cause, or the script was not played to its end, or an image not saved
+abbrev pub IsFailedMachineRun : {F : Type 0} → (List ℕ → F → Type 0) → (F → Option (List ℕ))
+    → (F → ℕ) → PlayFails BareOptions
+IsFailedMachineRun Gives remaining count options = IsFailedWholeRun machine_goes machine_volumes
+    (IsMachineOf Gives remaining (map (λ path. path.now) options.volumes.items)
+    (blocks_of options.storage))
+    (IsNoMachine Gives remaining count (map (λ path. path.now) options.volumes.items))
+    Gives remaining count options.script.now (saved_paths options)
+
+-- the paths of volumes that are saved after a following, if that is asked for
+abbrev pub saved_follow_paths : MachineFollowOptions → List (List ℕ)
+saved_follow_paths options = saved_of options.save (map (λ path. path.now) options.volumes.items)
 
 -- a machine was made, the parts of a script were followed on that, and the images were saved if
 -- that was asked for, by the options and by the input
-pub record IsWholeFollowing {F : Type 0} (Gives : List ℕ → F → Type 0)
-    (remaining : F → Option (List ℕ)) (options : MachineFollowOptions)
-    (deeds_old deeds_new : Option (List Deed))
-    (reader_old reader_new writer_old writer_new : Option (List ℕ)) : Type 0 where
-  pub first : Alone
-  pub between : Option (List Deed)
-  pub made : IsMachineOf Gives remaining (map (λ path. path.now) options.volumes.items)
-      (blocks_of options.storage) first
-  pub read : Adds deeds_old between (opens (map (λ path. path.now) options.volumes.items))
-  pub followed : IsFollowing machine_goes machine_volumes (detail_of options.terminals)
-      (saved_of options.save (map (λ path. path.now) options.volumes.items)) first between deeds_new
-      reader_old reader_new writer_old writer_new
+abbrev pub IsMachineFollowing : {F : Type 0} → (List ℕ → F → Type 0) → (F → Option (List ℕ))
+    → Follows MachineFollowOptions
+IsMachineFollowing Gives remaining options = IsWholeFollowing machine_goes machine_volumes
+    (IsMachineOf Gives remaining (map (λ path. path.now) options.volumes.items)
+    (blocks_of options.storage))
+    (detail_of options.terminals) (saved_follow_paths options)
 
--- what a run that followed parts has done when it fails
-abbrev pub IsFailedWholeFollowing : {F : Type 0} → (List ℕ → F → Type 0) → (F → Option (List ℕ))
-    → (F → ℕ) → MachineFollowOptions → Option (List Deed) → Option (List Deed) → Option (List ℕ)
-    → Option (List ℕ)
-    → Option (List ℕ) → Option (List ℕ) → FailureCounts → Failure → Type 0
-IsFailedWholeFollowing Gives remaining count options deeds_old deeds_new reader_old reader_new
-    writer_old writer_new counts failure =
-    (AddsFront deeds_old deeds_new (opens (map (λ path. path.now) options.volumes.items))
-    × (reader_new ≡ reader_old) × (writer_new ≡ writer_old)
-    × IsNoMachine Gives remaining count (map (λ path. path.now) options.volumes.items) failure)
-    ⊎ ((first : Alone) × (between : Option (List Deed))
-    × IsMachineOf Gives remaining (map (λ path. path.now) options.volumes.items)
-    (blocks_of options.storage) first
-    × Adds deeds_old between (opens (map (λ path. path.now) options.volumes.items))
-    × IsFailedFollowing machine_goes machine_volumes (detail_of options.terminals)
-    (saved_of options.save (map (λ path. path.now) options.volumes.items)) first between
-    deeds_new reader_old reader_new writer_old writer_new counts failure)
+-- no machine was made, for a cause, or the parts were not followed, or an image not saved
+abbrev pub IsFailedMachineFollowing : {F : Type 0} → (List ℕ → F → Type 0)
+    → (F → Option (List ℕ)) → (F → ℕ) → FollowFails MachineFollowOptions
+IsFailedMachineFollowing Gives remaining count options =
+    IsFailedWholeFollowing machine_goes machine_volumes
+    (IsMachineOf Gives remaining (map (λ path. path.now) options.volumes.items)
+    (blocks_of options.storage))
+    (IsNoMachine Gives remaining count (map (λ path. path.now) options.volumes.items))
+    (detail_of options.terminals) (saved_follow_paths options)
 
 -- ---- the program
 
--- a script was played by the options that these words name, whatever standard output has
-pub record IsRunNamed {F : Type 0} (words : List (List ℕ)) (Gives : List ℕ → F → Type 0)
-    (remaining : F → Option (List ℕ)) (deeds_old deeds_new : Option (List Deed)) : Type 0 where
-  pub options : BareOptions
-  pub named : IsNamed (rows_named (command_of (codes "bare370")) words) options
-  pub writer_old : Option (List ℕ)
-  pub writer_new : Option (List ℕ)
-  pub whole : IsWholeRun Gives remaining options deeds_old deeds_new writer_old writer_new
+-- what words give for a run, and for a following
+abbrev pub run_rows : List (List ℕ) → List Row
+run_rows words = rows_named (command_of (codes "bare370")) words
 
--- the parts of a script were followed by the options that these words name, whatever standard input
--- and output have
-pub record IsFollowingNamed {F : Type 0} (words : List (List ℕ)) (Gives : List ℕ → F → Type 0)
-    (remaining : F → Option (List ℕ)) (deeds_old deeds_new : Option (List Deed)) : Type 0 where
-  pub options : MachineFollowOptions
-  pub named : IsFollowNamed (rows_named (follow_command_of (codes "bare370")) words) options
-  pub reader_old : Option (List ℕ)
-  pub reader_new : Option (List ℕ)
-  pub writer_old : Option (List ℕ)
-  pub writer_new : Option (List ℕ)
-  pub whole : IsWholeFollowing Gives remaining options deeds_old deeds_new reader_old reader_new
-      writer_old writer_new
-
--- what these words ask for was done
-abbrev pub IsWholeProgram : {F : Type 0} → List (List ℕ) → (List ℕ → F → Type 0)
-    → (F → Option (List ℕ)) → Option (List Deed) → Option (List Deed) → Type 0
-IsWholeProgram words Gives remaining deeds_old deeds_new =
-    ((asks_to_follow words ≡ false) × IsRunNamed words Gives remaining deeds_old deeds_new)
-    ⊎ ((asks_to_follow words ≡ true) × IsFollowingNamed words Gives remaining deeds_old deeds_new)
+abbrev pub follow_rows : List (List ℕ) → List Row
+follow_rows words = rows_named (follow_command_of (codes "bare370")) words
 
 -- these words name no options of a run
 abbrev pub IsMisused : List (List ℕ) → Type 0
 IsMisused words = (pages : ℕ) → is_taken (command_of (codes "bare370")) words ≡ true →
-    gives_script (rows_named (command_of (codes "bare370")) words) ≡ true →
-    storage_named (rows_named (command_of (codes "bare370")) words) ≡ Some pages →
-    length (texts_of (all_of (codes "VOLUME") (rows_named (command_of (codes "bare370")) words)))
-    ≤ 16 → ⊥
+    gives_script (run_rows words) ≡ true → storage_named (run_rows words) ≡ Some pages →
+    length (texts_of (all_of (codes "VOLUME") (run_rows words))) ≤ 16 → ⊥
 
 -- these words name no options of a following
 abbrev pub IsMisusedToFollow : List (List ℕ) → Type 0
-IsMisusedToFollow words = (pages : ℕ) → is_taken (follow_command_of (codes "bare370")) words ≡ true →
-    storage_named (rows_named (follow_command_of (codes "bare370")) words) ≡ Some pages →
-    length
-    (texts_of (all_of (codes "VOLUME") (rows_named (follow_command_of (codes "bare370")) words)))
-    ≤ 16 → ⊥
+IsMisusedToFollow words = (pages : ℕ)
+    → is_taken (follow_command_of (codes "bare370")) words ≡ true →
+    storage_named (follow_rows words) ≡ Some pages →
+    length (texts_of (all_of (codes "VOLUME") (follow_rows words))) ≤ 16 → ⊥
 
--- a run by the options that these words name has failed
-pub record IsFailedRunNamed {F : Type 0} (words : List (List ℕ)) (Gives : List ℕ → F → Type 0)
-    (remaining : F → Option (List ℕ)) (count : F → ℕ) (deeds_old deeds_new : Option (List Deed))
-    (failure : Failure) : Type 0 where
-  pub options : BareOptions
-  pub named : IsNamed (rows_named (command_of (codes "bare370")) words) options
-  pub writer_old : Option (List ℕ)
-  pub writer_new : Option (List ℕ)
-  pub failed_old : ℕ
-  pub failed_new : ℕ
-  pub failed : IsFailedWholeRun Gives remaining count options deeds_old deeds_new writer_old
-      writer_new failed_old failed_new failure
+-- the parts of a script were followed by the options that these words name
+abbrev pub IsProgramFollowing : {F I O : Type 0} → HostStreams F I O → List (List ℕ)
+    → Option (List Deed) → Option (List Deed) → Type 0
+IsProgramFollowing host words = IsFollowingNamed host (IsFollowNamed (follow_rows words))
+    (IsMachineFollowing host.Gives host.remaining)
 
--- a following by the options that these words name has failed
-pub record IsFailedFollowingNamed {F : Type 0} (words : List (List ℕ))
-    (Gives : List ℕ → F → Type 0) (remaining : F → Option (List ℕ)) (count : F → ℕ)
-    (deeds_old deeds_new : Option (List Deed)) (failure : Failure) : Type 0 where
-  pub options : MachineFollowOptions
-  pub named : IsFollowNamed (rows_named (follow_command_of (codes "bare370")) words) options
-  pub reader_old : Option (List ℕ)
-  pub reader_new : Option (List ℕ)
-  pub writer_old : Option (List ℕ)
-  pub writer_new : Option (List ℕ)
-  pub counts : FailureCounts
-  pub failed : IsFailedWholeFollowing Gives remaining count options deeds_old deeds_new reader_old
-      reader_new writer_old writer_new counts failure
+-- nothing was begun, or a following by the options that these words name has failed
+abbrev pub IsFailedProgramFollowing : {F I O : Type 0} → HostStreams F I O → List (List ℕ)
+    → Unmaking
+IsFailedProgramFollowing host words = IsFailedToFollow host (IsFollowNamed (follow_rows words))
+    (IsFailedMachineFollowing host.Gives host.remaining host.file_failures)
+    (IsMisusedToFollow words)
 
--- no file was asked for, since memory was refused or the words name no options; or a run has failed
-abbrev pub IsFailedToRun : {F : Type 0} → List (List ℕ) → (List ℕ → F → Type 0)
-    → (F → Option (List ℕ)) → (F → ℕ) → Option (List Deed) → Option (List Deed) → Failure → Type 0
-IsFailedToRun words Gives remaining count deeds_old deeds_new failure =
-    (IsUnbegun (IsMisused words) failure × (deeds_new ≡ deeds_old))
-    ⊎ IsFailedRunNamed words Gives remaining count deeds_old deeds_new failure
-
--- no file was asked for, since memory was refused or the words name no options; or a following has
--- failed
-abbrev pub IsFailedToFollow : {F : Type 0} → List (List ℕ) → (List ℕ → F → Type 0)
-    → (F → Option (List ℕ)) → (F → ℕ) → Option (List Deed) → Option (List Deed) → Failure → Type 0
-IsFailedToFollow words Gives remaining count deeds_old deeds_new failure =
-    (IsUnbegun (IsMisusedToFollow words) failure × (deeds_new ≡ deeds_old))
-    ⊎ IsFailedFollowingNamed words Gives remaining count deeds_old deeds_new failure
+-- what these words ask for was done
+abbrev pub IsWholeProgram : {F I O : Type 0} → HostStreams F I O → List (List ℕ) → Bool
+    → Option (List Deed) → Option (List Deed) → Type 0
+IsWholeProgram host words is_watched deeds_old deeds_new = ByForm words
+    (IsRunNamed host (IsNamed (run_rows words)) (IsMachineRun host.Gives host.remaining)
+    is_watched deeds_old deeds_new)
+    (IsProgramFollowing host words deeds_old deeds_new)
 
 -- what these words ask for has failed
-abbrev pub IsFailedProgram : {F : Type 0} → List (List ℕ) → (List ℕ → F → Type 0)
-    → (F → Option (List ℕ)) → (F → ℕ) → Option (List Deed) → Option (List Deed) → Failure → Type 0
-IsFailedProgram words Gives remaining count deeds_old deeds_new failure =
-    ((asks_to_follow words ≡ false)
-    × IsFailedToRun words Gives remaining count deeds_old deeds_new failure)
-    ⊎ ((asks_to_follow words ≡ true)
-    × IsFailedToFollow words Gives remaining count deeds_old deeds_new failure)
-
--- no words were read, and no file was asked for, or what some words ask for has failed
-abbrev pub IsFailedToRead : {F : Type 0} → (List ℕ → F → Type 0) → (F → Option (List ℕ))
-    → (F → ℕ) → Option (List Deed) → Option (List Deed) → Failure → Type 0
-IsFailedToRead Gives remaining count deeds_old deeds_new failure =
-    (((failure ≡ failures.Usage) ⊎ (failure ≡ failures.Memory)) × (deeds_new ≡ deeds_old))
-    ⊎ ((words : List (List ℕ))
-    × IsFailedProgram words Gives remaining count deeds_old deeds_new failure)
+abbrev pub IsFailedProgram : {F I O : Type 0} → HostStreams F I O → List (List ℕ) → Bool → Unmaking
+IsFailedProgram host words is_watched deeds_old deeds_new failure = ByForm words
+    (IsFailedToRun host (IsNamed (run_rows words))
+    (IsFailedMachineRun host.Gives host.remaining host.file_failures) (IsMisused words)
+    is_watched deeds_old deeds_new failure)
+    (IsFailedProgramFollowing host words deeds_old deeds_new failure)

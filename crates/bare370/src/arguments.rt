@@ -2,19 +2,24 @@
 ghost use Rattle.std.specs.Prelude.{◌≡◌, ◌≤◌, ℕ, IfErr, IfOk, OnOk, Some, codes, false, length};
 ghost use Rattle.std.specs.Prelude.{map, true};
 ghost use Rattle.clap.specs.Words.{all_of, app_of, found_of, rows_of, rule_of};
-ghost use Rattle.programs.specs.Arguments.{HasNoFault, is_taken, rows_named, script_rule};
-ghost use Rattle.programs.specs.Arguments.{texts_of, volume_rule};
+ghost use Rattle.program_host.specs.Words.{HasNoFault, is_taken, rows_named, texts_of};
+ghost use Rattle.programs.specs.Arguments.{script_rule, volume_rule};
 ghost use Rattle.bare370.specs.Options.{IsNamed, command_of, gives_script};
 ghost use Rattle.bare370.specs.Options.{storage_named, storage_rule};
 
 use clap::{Arg, ArgAction, ArgMatches, Command};
 use cp_directory::{StorageSize, storage_of};
-use programs::words::{UsageError, is_given, matched, paths_of, save, text_of, usage};
+use program_host::words::{UsageError, is_given, matched, paths_of, text_of, usage};
+use programs::words::save;
 use std::alloc::{AllocError, Global};
 use std::convert::AsStr;
 
 /// The most volumes that a machine has.
 pub const MOST_VOLUMES: usize = 16;
+/// What is reported of more volumes.
+pub(crate) const MANY_VOLUMES: &str = "a machine has at most 16 volumes\n";
+/// What is reported of a size of storage that no machine has.
+pub(crate) const WRONG_STORAGE: &str = "STORAGE is 8K to 4096K in steps of 4K, or 1M to 4M\n";
 
 /// What the words of the program name: `bare370 [--save] STORAGE SCRIPT [VOLUME]...`.
 #[derive(Debug, Drop)]
@@ -73,17 +78,14 @@ fn options_in<'a>(alloc: Global, matches: &ArgMatches<'a>) -> Result<BareOptions
         IfErr result (λ error. error ≡ UsageError.Memory) }
 {
     let Some(script) = text_of(matches, "SCRIPT") else {
-        return Err(usage(alloc, "a path is missing\n"));
+        return Err(usage(String::from_str(alloc, "a path is missing\n").ok()));
     };
     let Some(storage) = storage_in(matches) else {
-        return Err(usage(
-            alloc,
-            "STORAGE is 8K to 4096K in steps of 4K, or 1M to 4M\n",
-        ));
+        return Err(usage(String::from_str(alloc, WRONG_STORAGE).ok()));
     };
     let volumes = paths_of(alloc, matches, "VOLUME")?;
     if volumes.len() > MOST_VOLUMES {
-        return Err(usage(alloc, "a machine has at most 16 volumes\n"));
+        return Err(usage(String::from_str(alloc, MANY_VOLUMES).ok()));
     }
     Ok(BareOptions {
         save: is_given(matches, "save"),

@@ -1,14 +1,15 @@
 //! The words of the program where it follows a script that it is given part by part.
 ghost use Rattle.std.specs.Prelude.{◌≡◌, ◌≤◌, ℕ, IfErr, IfOk, OnOk, Some, codes, length, map, true};
 ghost use Rattle.clap.specs.Words.{all_of, app_of, found_of, rows_of};
-ghost use Rattle.programs.specs.Arguments.{HasNoFault, is_taken, rows_named, texts_of};
+ghost use Rattle.program_host.specs.Words.{HasNoFault, is_taken, rows_named, texts_of};
 ghost use Rattle.bare370.specs.FollowOptions.{IsNamed, command_of};
 ghost use Rattle.bare370.specs.Options.{storage_named};
 
-use crate::arguments::{MOST_VOLUMES, storage, storage_in, volumes};
+use crate::arguments::{MANY_VOLUMES, MOST_VOLUMES, WRONG_STORAGE, storage, storage_in, volumes};
 use clap::{ArgMatches, Command};
 use cp_directory::StorageSize;
-use programs::words::{UsageError, follow, is_given, matched, paths_of, save, terminals, usage};
+use program_host::words::{UsageError, is_given, matched, paths_of, usage};
+use programs::words::{follow, save, terminals};
 use std::alloc::{AllocError, Global};
 use std::convert::AsStr;
 
@@ -68,14 +69,11 @@ fn options_in<'a>(
         IfErr result (λ error. error ≡ UsageError.Memory) }
 {
     let Some(storage) = storage_in(matches) else {
-        return Err(usage(
-            alloc,
-            "STORAGE is 8K to 4096K in steps of 4K, or 1M to 4M\n",
-        ));
+        return Err(usage(String::from_str(alloc, WRONG_STORAGE).ok()));
     };
     let volumes = paths_of(alloc, matches, "VOLUME")?;
     if volumes.len() > MOST_VOLUMES {
-        return Err(usage(alloc, "a machine has at most 16 volumes\n"));
+        return Err(usage(String::from_str(alloc, MANY_VOLUMES).ok()));
     }
     Ok(MachineFollowOptions {
         save: is_given(matches, "save"),

@@ -4,15 +4,19 @@
 //!
 //! The transcript goes to standard output. A failure is one line on standard error, and its kind is
 //! the exit status.
-ghost use Rattle.std.specs.Prelude.{ℕ, IfErr, List, OnOk, map, string_bytes};
-ghost use Rattle.bare370.specs.Runs.{IsFailedProgram, IsFailedToFollow, IsFailedToRead};
-ghost use Rattle.bare370.specs.Runs.{IsFollowingNamed, IsWholeProgram};
+ghost use Rattle.std.specs.Prelude.{◌⊎◌, ℕ, [], IfErr, List, OnOk, map, string_bytes};
+ghost use Rattle.programs.specs.Arguments.{IsUnbegun};
+ghost use Rattle.programs.specs.Whole.{streams_of};
+ghost use Rattle.bare370.specs.Runs.{IsFailedProgram, IsFailedProgramFollowing};
+ghost use Rattle.bare370.specs.Runs.{IsProgramFollowing, IsWholeProgram};
 
 use crate::arguments::bare_arguments;
 use crate::follow_arguments::follow_arguments;
 use crate::runs::{follow_machine, run_files};
-use programs::program::{asks_to_follow, input, output, words, wrong_use};
-use programs::{Failure, FileStore, HostFiles, ProgramEnd, finish};
+use program_host::{ProcessHost, ProgramEnd, ProgramHost, finish, wrong_use};
+use programs::Failure;
+use programs::words::asks_to_follow;
+use std::alloc::Global;
 use std::rt::{Env, Files};
 
 /// The program's name, as it says it.
@@ -38,8 +42,10 @@ The transcript goes to standard output, a fault as one line to standard error. E
 pub fn bare_program<R: AllocGlobal + Files + Env + Input + Print + Eprint>(
     rt: &R,
     is_watched: bool,
-) -> ProgramEnd {
-    finish(rt, run(rt, &mut HostFiles::new(rt), is_watched))
+) -> ProgramEnd<Failure> {
+    let mut host = ProcessHost::new(rt);
+    let ended = run(rt.alloc(), &mut host, is_watched);
+    finish(rt.alloc(), &mut host, ended)
 }
 
 /// Reads the arguments, and does what they ask: plays a script, or follows one whose parts are read
@@ -47,65 +53,76 @@ pub fn bare_program<R: AllocGlobal + Files + Env + Input + Print + Eprint>(
 ///
 /// It reads the images and the script, writes the transcript, and saves the volumes if `--save` is
 /// given. A wrong use is reported here.
-fn run<R: AllocGlobal + Env + Input + Print + Eprint, F: FileStore>(
-    rt: &R,
-    files: &mut F,
-    is_watched: bool,
-) -> Result<(), Failure>
-    ensures ok { OnOk result ((words : List (List ℕ))
-        × IsWholeProgram words F.gives F.File.remaining (F.deeds files.old) (F.deeds files.new)) }
-    ensures err { IfErr result
-        (IsFailedToRead F.gives F.File.remaining F.File.HostFile.failures (F.deeds files.old)
-        (F.deeds files.new)) }
+fn run<H: ProgramHost>(alloc: Global, host: &mut H, is_watched: bool) -> Result<(), Failure>
+    ensures ok { OnOk result ((words : List (List ℕ)) × H.has_words host.old words
+        × IsWholeProgram (streams_of H.gives H.File.remaining H.File.HostFile.failures
+        H.listens H.Input.remaining H.Input.HostFile.failures
+        H.prints H.Output.contents H.Output.held H.Output.HostFile.failures)
+        words is_watched (H.deeds host.old) (H.deeds host.new)) }
+    ensures err { IfErr result (λ failure.
+        IsUnbegun [] (H.has_no_text host.old) (H.deeds host.old) (H.deeds host.new) failure
+        ⊎ ((words : List (List ℕ)) × H.has_words host.old words
+        × IsFailedProgram (streams_of H.gives H.File.remaining H.File.HostFile.failures
+        H.listens H.Input.remaining H.Input.HostFile.failures
+        H.prints H.Output.contents H.Output.held H.Output.HostFile.failures)
+        words is_watched (H.deeds host.old) (H.deeds host.new)
+        failure)) }
 {
-    let words = words(rt, PROGRAM)?;
-    obey(rt, files, words.as_slice(), is_watched)
+    let words = match host.words(alloc) {
+        Ok(words) => words,
+        Err(error) => return Err(wrong_use(host, &error, "")),
+    };
+    obey(alloc, host, words.as_slice(), is_watched)
 }
 
 /// Does what these words of the command line ask.
-fn obey<R: AllocGlobal + Input + Print + Eprint, F: FileStore>(
-    rt: &R,
-    files: &mut F,
+fn obey<H: ProgramHost>(
+    alloc: Global,
+    host: &mut H,
     words: &[String],
     is_watched: bool,
 ) -> Result<(), Failure>
     ensures ok { OnOk result
-        (IsWholeProgram (map string_bytes words.now) F.gives F.File.remaining (F.deeds files.old)
-        (F.deeds files.new)) }
+        (IsWholeProgram (streams_of H.gives H.File.remaining H.File.HostFile.failures
+        H.listens H.Input.remaining H.Input.HostFile.failures
+        H.prints H.Output.contents H.Output.held H.Output.HostFile.failures)
+        (map string_bytes words.now) is_watched (H.deeds host.old) (H.deeds host.new)) }
     ensures err { IfErr result
-        (IsFailedProgram (map string_bytes words.now) F.gives F.File.remaining
-        F.File.HostFile.failures (F.deeds files.old) (F.deeds files.new)) }
+        (IsFailedProgram (streams_of H.gives H.File.remaining H.File.HostFile.failures
+        H.listens H.Input.remaining H.Input.HostFile.failures
+        H.prints H.Output.contents H.Output.held H.Output.HostFile.failures)
+        (map string_bytes words.now) is_watched (H.deeds host.old) (H.deeds host.new)) }
 {
     if asks_to_follow(words) {
-        return follow(rt, files, words);
+        return follow(alloc, host, words);
     }
-    let options = match bare_arguments(rt.alloc(), PROGRAM, words) {
+    let options = match bare_arguments(alloc, PROGRAM, words) {
         Ok(options) => options,
-        Err(error) => return Err(wrong_use(rt, &error, USAGE_NOTE)),
+        Err(error) => return Err(wrong_use(host, &error, USAGE_NOTE)),
     };
-    let mut output = output(rt, is_watched)?;
-    run_files(rt.alloc(), files, &options, &mut output)
+    let mut output = host.output(is_watched)?;
+    run_files(alloc, host, &options, &mut output)
 }
 
 /// Follows a script whose parts are read from standard input, writes its transcript to standard
 /// output, and at its end saves the volumes if `--save` is given; a usage error is printed here.
-fn follow<R: AllocGlobal + Input + Print + Eprint, F: FileStore>(
-    rt: &R,
-    files: &mut F,
-    words: &[String],
-) -> Result<(), Failure>
+fn follow<H: ProgramHost>(alloc: Global, host: &mut H, words: &[String]) -> Result<(), Failure>
     ensures ok { OnOk result
-        (IsFollowingNamed (map string_bytes words.now) F.gives F.File.remaining
-        (F.deeds files.old) (F.deeds files.new)) }
+        (IsProgramFollowing (streams_of H.gives H.File.remaining H.File.HostFile.failures
+        H.listens H.Input.remaining H.Input.HostFile.failures
+        H.prints H.Output.contents H.Output.held H.Output.HostFile.failures)
+        (map string_bytes words.now) (H.deeds host.old) (H.deeds host.new)) }
     ensures err { IfErr result
-        (IsFailedToFollow (map string_bytes words.now) F.gives F.File.remaining
-        F.File.HostFile.failures (F.deeds files.old) (F.deeds files.new)) }
+        (IsFailedProgramFollowing (streams_of H.gives H.File.remaining H.File.HostFile.failures
+        H.listens H.Input.remaining H.Input.HostFile.failures
+        H.prints H.Output.contents H.Output.held H.Output.HostFile.failures)
+        (map string_bytes words.now) (H.deeds host.old) (H.deeds host.new)) }
 {
-    let options = match follow_arguments(rt.alloc(), PROGRAM, words) {
+    let options = match follow_arguments(alloc, PROGRAM, words) {
         Ok(options) => options,
-        Err(error) => return Err(wrong_use(rt, &error, USAGE_NOTE)),
+        Err(error) => return Err(wrong_use(host, &error, USAGE_NOTE)),
     };
-    let mut input = input(rt)?;
-    let mut output = output(rt, false)?;
-    follow_machine(rt.alloc(), files, &options, &mut input, &mut output)
+    let mut input = host.input()?;
+    let mut output = host.output(false)?;
+    follow_machine(alloc, host, &options, &mut input, &mut output)
 }

@@ -1,10 +1,9 @@
 //! What the program does with its files: it reads images, makes the machine of their volumes, plays
 //! or follows a script, and saves the images.
-ghost use Rattle.std.specs.Prelude.{◌≡◌, ◌≤◌, [], IfErr, IfOk, OnErr, OnOk, map};
-ghost use Rattle.programs.specs.Opened.{Adds, AddsFront, opens};
-ghost use Rattle.bare370.specs.Runs.{IsFailedWholeFollowing, IsFailedWholeRun, IsMachineOf, IsMade};
-ghost use Rattle.bare370.specs.Runs.{IsNoMachine, IsUnmade, attach_failure};
-ghost use Rattle.bare370.specs.Runs.{IsWholeFollowing, IsWholeRun, blocks_of, detail_of};
+ghost use Rattle.std.specs.Prelude.{◌≡◌, ◌≤◌, [], IfErr, IfOk, OnOk, map};
+ghost use Rattle.bare370.specs.Runs.{IsFailedMachineFollowing, IsFailedMachineRun};
+ghost use Rattle.bare370.specs.Runs.{IsMachineFollowing, IsMachineOf, IsMachineRun, IsMade};
+ghost use Rattle.bare370.specs.Runs.{IsNoMachine, IsUnmade, attach_failure, blocks_of};
 ghost use Rattle.bare370.specs.Runs.{machine_volumes};
 
 use crate::arguments::BareOptions;
@@ -13,11 +12,11 @@ use crate::installation::{OneMachine, machine_of};
 use ckd_volume::Volume;
 use cp_directory::StorageSize;
 use machine_devices::AttachError;
+use program_host::ProgramHost;
 use programs::{
-    Failure, FileStore, HasVolumes, follow_files, read_images, run_script, saved_paths,
+    Failure, HasVolumes, detail_of, follow_files, read_images, run_script, saved_paths,
 };
 use s370_num::host::{HostReader, HostWriter};
-use sessions::Detail;
 use std::alloc::Global;
 
 impl HasVolumes for OneMachine {
@@ -38,25 +37,25 @@ impl HasVolumes for OneMachine {
 /// # Errors
 ///
 /// A `Failure`: of a file, a text, an image or the boot, or refused memory.
-pub fn run_files<F: FileStore, W: HostWriter>(
+pub fn run_files<H: ProgramHost, W: HostWriter>(
     alloc: Global,
-    files: &mut F,
+    host: &mut H,
     options: &BareOptions<'_>,
     writer: &mut W,
 ) -> Result<(), Failure>
     ensures ok { OnOk result
-        (IsWholeRun F.gives F.File.remaining options.now (F.deeds files.old) (F.deeds files.new)
+        (IsMachineRun H.gives H.File.remaining options.now (H.deeds host.old) (H.deeds host.new)
         (W.contents writer.old) (W.contents writer.new)) }
     ensures flushed { OnOk result (W.held writer.new ≡ []) }
     ensures err { IfErr result
-        (IsFailedWholeRun F.gives F.File.remaining F.File.HostFile.failures options.now
-        (F.deeds files.old) (F.deeds files.new) (W.contents writer.old) (W.contents writer.new)
+        (IsFailedMachineRun H.gives H.File.remaining H.File.HostFile.failures options.now
+        (H.deeds host.old) (H.deeds host.new) (W.contents writer.old) (W.contents writer.new)
         (W.HostFile.failures writer.old) (W.HostFile.failures writer.new)) }
 {
     let volumes = options.volumes.as_slice();
     let saved = saved_paths(options.save, volumes);
-    let mut machine = read_machine(alloc, files, options.storage, volumes)?;
-    run_script(alloc, files, &mut machine, options.script, saved, writer)
+    let mut machine = read_machine(alloc, host, options.storage, volumes)?;
+    run_script(alloc, host, &mut machine, options.script, saved, writer)
 }
 
 /// Makes the machine that these options name, follows the parts of a script that an input has and
@@ -67,22 +66,21 @@ pub fn run_files<F: FileStore, W: HostWriter>(
 /// # Errors
 ///
 /// A `Failure`: of a file, a text, an image or the boot, or refused memory.
-pub fn follow_machine<F: FileStore, R: HostReader, W: HostWriter>(
+pub fn follow_machine<H: ProgramHost, R: HostReader, W: HostWriter>(
     alloc: Global,
-    files: &mut F,
+    host: &mut H,
     options: &MachineFollowOptions<'_>,
     reader: &mut R,
     writer: &mut W,
 ) -> Result<(), Failure>
     ensures ok { OnOk result
-        (IsWholeFollowing F.gives F.File.remaining options.now (F.deeds files.old)
-        (F.deeds files.new)
-        (R.remaining reader.old) (R.remaining reader.new) (W.contents writer.old)
-        (W.contents writer.new)) }
+        (IsMachineFollowing H.gives H.File.remaining options.now (H.deeds host.old)
+        (H.deeds host.new) (R.remaining reader.old) (R.remaining reader.new)
+        (W.contents writer.old) (W.contents writer.new)) }
     ensures flushed { OnOk result (W.held writer.new ≡ []) }
     ensures err { IfErr result
-        (IsFailedWholeFollowing F.gives F.File.remaining F.File.HostFile.failures options.now
-        (F.deeds files.old) (F.deeds files.new) (R.remaining reader.old) (R.remaining reader.new)
+        (IsFailedMachineFollowing H.gives H.File.remaining H.File.HostFile.failures options.now
+        (H.deeds host.old) (H.deeds host.new) (R.remaining reader.old) (R.remaining reader.new)
         (W.contents writer.old) (W.contents writer.new)
         (record {
           reader_old = R.HostFile.failures reader.old;
@@ -93,10 +91,10 @@ pub fn follow_machine<F: FileStore, R: HostReader, W: HostWriter>(
 {
     let volumes = options.volumes.as_slice();
     let saved = saved_paths(options.save, volumes);
-    let machine = read_machine(alloc, files, options.storage, volumes)?;
+    let machine = read_machine(alloc, host, options.storage, volumes)?;
     follow_files(
         alloc,
-        files,
+        host,
         machine,
         detail_of(options.terminals),
         saved,
@@ -111,26 +109,20 @@ pub fn follow_machine<F: FileStore, R: HostReader, W: HostWriter>(
 /// # Errors
 ///
 /// A `Failure`: of a file, a text, an image or the boot, or refused memory.
-pub fn read_machine<F: FileStore>(
+pub fn read_machine<H: ProgramHost>(
     alloc: Global,
-    files: &mut F,
+    host: &mut H,
     storage: StorageSize,
     volumes: &[&str],
 ) -> Result<OneMachine, Failure>
     ensures ok { IfOk result
-        (IsMachineOf F.gives F.File.remaining (map (λ path. path.now) volumes.now)
-        (blocks_of storage)) }
-    ensures deeds { OnOk result
-        (Adds (F.deeds files.old) (F.deeds files.new)
-        (opens (map (λ path. path.now) volumes.now))) }
-    ensures err { OnErr result
-        (AddsFront (F.deeds files.old) (F.deeds files.new)
-        (opens (map (λ path. path.now) volumes.now))) }
-    ensures why { IfErr result
-        (IsNoMachine F.gives F.File.remaining F.File.HostFile.failures
-        (map (λ path. path.now) volumes.now)) }
+        (IsMachineOf H.gives H.File.remaining (map (λ path. path.now) volumes.now)
+        (blocks_of storage) (H.deeds host.old) (H.deeds host.new)) }
+    ensures err { IfErr result
+        (IsNoMachine H.gives H.File.remaining H.File.HostFile.failures
+        (map (λ path. path.now) volumes.now) (H.deeds host.old) (H.deeds host.new)) }
 {
-    let volumes = read_images(alloc, files, volumes)?;
+    let volumes = read_images(alloc, host, volumes)?;
     made(alloc, storage.blocks(), volumes)
 }
 
@@ -157,16 +149,5 @@ fn unattached(error: AttachError) -> Failure
         AttachError::Memory => Failure::Memory,
         // More volumes than a machine has disks, which are words that are not the program's.
         AttachError::Address => Failure::Usage,
-    }
-}
-
-/// Returns the detail of a transcript: that of terminals if `terminals` is true, else the whole.
-fn detail_of(terminals: bool) -> Detail
-    ensures { result ≡ detail_of terminals }
-{
-    if terminals {
-        Detail::Terminals
-    } else {
-        Detail::Whole
     }
 }

@@ -1,7 +1,5 @@
 -- What a program reports if its words, its host or a stream fail.
-use Rattle.std.proofs.Common.{◌≡◌, ℕ, List, [], ◌∷◌, Option, None, Some, Ok, ap, arith, inl, inr, length, map}
-use Rattle.std.proofs.Common.{◌∙◌, refl, subst, sym}
-use Rattle.std.specs.Prelude.{slice_get}
+use Rattle.std.proofs.Common.{◌≡◌, ◌∙◌, ◌⊎◌, ℕ, List, [], Option, Ok, ap, inl, inr, refl, string_bytes, subst, sym, Global}
 use Rattle.std.specs.Io.KnownBytes.{Appends, Keeps}
 use Rattle.s370_num.specs.Host.{IsCounted}
 use Rattle.s370_num.specs.declared.host.HostFault.{HostFault}
@@ -11,20 +9,34 @@ use Rattle.ckd_image.specs.Faults.{IsCountedWriting}
 use Rattle.ckd_image.specs.declared.faults.ImageError.{ImageError}
 use Rattle.ckd_image.specs.declared.faults.ImageError.TheVariants as images
 use Rattle.ckd_image.proofs.Parts.{appended_kept, whole_front}
-use Rattle.ckd_text.specs.Faults.{file_failure, image_failure, use_failure}
+use Rattle.program_host.specs.Deeds.{Adds, Deed}
+use Rattle.program_host.specs.Ends.{IsUseFailure, use_complaints}
+use Rattle.program_host.specs.declared.words.UsageError.{UsageError}
+use Rattle.program_host.specs.declared.words.UsageError.TheVariants as uses
+use Rattle.ckd_text.specs.Faults.{file_failure, image_failure}
 use Rattle.ckd_text.specs.Hosts.{Giving, HasFailed, IsCutAs, IsReadAs}
 use Rattle.ckd_text.specs.Made.{IsStated}
-use Rattle.ckd_text.specs.Runs.{IsUnbegun, named_tool, tool_of, words_of}
+use Rattle.ckd_text.specs.Runs.{IsUnbegun}
 use Rattle.ckd_text.specs.Text.{volume_of}
-use Rattle.ckd_text.specs.declared.arguments.ToolUsageError.{ToolUsageError}
-use Rattle.ckd_text.specs.declared.arguments.ToolUsageError.TheVariants as uses
 use Rattle.ckd_text.specs.declared.faults.ToolFailure.{ToolFailure}
+use Rattle.ckd_text.specs.declared.faults.ToolFailure.TheVariants as failures
 
 -- An error that is lack of memory if the words are right begins nothing.
-pub unbegun : {H : Type 0} {Misuse : Type 0} (host : H) (error : ToolUsageError) (failure : ToolFailure)
-    → failure ≡ use_failure error → ((error ≡ uses.Memory → ⊥) → Misuse) → IsUnbegun Misuse host host failure
-unbegun host uses.Memory failure e h = (inl e, refl)
-unbegun host (uses.Usage text) failure e h = (inr (e, h (λ m. cc m)), refl)
+pub unbegun : {Misuse : Type 0} (old new : Option (List Deed)) (error : UsageError) (note : List ℕ)
+    (failure : ToolFailure) → IsUseFailure (λ f. f ≡ failures.Memory) (λ f. f ≡ failures.Usage) error failure
+    → ((error ≡ uses.Memory → ⊥) → Misuse) → Adds old new (use_complaints error note)
+    → IsUnbegun Misuse old new failure
+unbegun old new uses.Memory note failure is h told = inl (is, told)
+unbegun old new (uses.Usage text) note failure is h told =
+    inr (is, h (λ m. cc m), record { text = string_bytes {Z = Global} text; note = note; told = told })
+
+-- Words that were not read begin nothing: memory was refused, or this holds, one of them is no text.
+pub unread : {NoText : Type 0} (old new : Option (List Deed)) (error : UsageError) (note : List ℕ)
+    (failure : ToolFailure) → IsUseFailure (λ f. f ≡ failures.Memory) (λ f. f ≡ failures.Usage) error failure
+    → (error ≡ uses.Memory) ⊎ NoText → Adds old new (use_complaints error note) → IsUnbegun NoText old new failure
+unread old new error note failure is h told =
+    unbegun old new error note failure is
+    (λ other. elim h [ inl memory ↦ absurd (other memory) | inr none ↦ none ]) told
 
 -- An image that is not written to its end has a file that failed, or no memory.
 pub unwritten : {W : Type 0} (count : W → ℕ) (first last : W) (error : ImageError)
@@ -49,8 +61,8 @@ unflushed contents count first between last bytes fault written same kept counte
 )
 
 -- A text that was read to its end, and states a volume.
-pub stated : {H F : Type 0} (Opens : List ℕ → Giving H F) (remaining : F → Option (List ℕ)) (path : List ℕ)
-    (volume : VolumeFormat) (old new : H) (file left : F) (text slice : List ℕ) → Opens path old (Ok file) new
+pub stated : {F : Type 0} (Opens : List ℕ → Giving F) (remaining : F → Option (List ℕ)) (path : List ℕ)
+    (volume : VolumeFormat) (old new : Option (List Deed)) (file left : F) (text slice : List ℕ) → Opens path old (Ok file) new
     → IsReadAs remaining text file left → slice ≡ text → volume_of slice ≡ Ok volume
     → IsStated Opens remaining path volume old new
 stated Opens remaining path volume old new file left text slice opened read same states = record {
@@ -58,29 +70,3 @@ stated Opens remaining path volume old new file left text slice opened read same
   read = record { first = file; last = left; given = opened; used = read };
   stated = ap volume_of (sym same) ∙ states;
 }
-
--- A command line without words has none after its name.
-pub no_words : {A : Type 0} (line : List A) → length line ≡ 0 → line ≡ words_of line
-no_words [] e = refl
-no_words (name ∷ words) e = absurd (omega (arith, e))
-
-words_map : {A B : Type 0} (f : A → B) (line : List A) → map f (words_of line) ≡ words_of (map f line)
-words_map f [] = refl
-words_map f (name ∷ words) = refl
-
--- The texts of the words after the name are those after the text of the name.
-pub words_are : {A B : Type 0} (f : A → B) (line slice words : List A) → words ≡ words_of slice → slice ≡ line
-    → map f words ≡ words_of (map f line)
-words_are f line slice words after same = ap (map f) (after ∙ ap words_of same) ∙ words_map f line
-
--- The program is that of the first word.
-pub named_first : {A : Type 0} (f : A → List ℕ) (words : List A) (name : A) → Some name ≡ slice_get words 0
-    → named_tool (map f words) ≡ tool_of (f name)
-named_first f [] name e = cc
-named_first f (word ∷ words) name e = let same : word ≡ name = cc in ap (λ x. tool_of (f x)) same
-
--- No word names none.
-pub named_none : {A : Type 0} (f : A → List ℕ) (words : List A) → None ≡ slice_get words 0
-    → None ≡ named_tool (map f words)
-named_none f [] e = refl
-named_none f (word ∷ words) e = cc

@@ -1,13 +1,11 @@
 -- What mkvol and trackmap say of a failure, and their exit status.
-use Rattle.std.specs.Prelude.{ℕ, List, ◌++◌, codes, Result, Ok, Err}
+use Rattle.std.specs.Prelude.{ℕ, List, ◌++◌, codes}
 use Rattle.std.specs.Fmt.{decimal}
 use Rattle.ckd_image.specs.declared.faults.ImageError.{ImageError}
 use Rattle.ckd_image.specs.declared.faults.ImageError.TheVariants as images
 use Rattle.ckd_image.specs.Told.{image_status, image_text}
 use Rattle.s370_num.specs.declared.host.HostFault.{HostFault}
 use Rattle.s370_num.specs.declared.host.HostFault.TheVariants as hosts
-use Rattle.ckd_text.specs.declared.arguments.ToolUsageError.{ToolUsageError}
-use Rattle.ckd_text.specs.declared.arguments.ToolUsageError.TheVariants as uses
 use Rattle.ckd_text.specs.declared.reader.TextError.{TextError}
 use Rattle.ckd_text.specs.declared.reader.TextError.TheVariants as texts
 use Rattle.ckd_text.specs.declared.faults.ToolFailure.{ToolFailure}
@@ -33,11 +31,6 @@ image_failure (images.BadTrack cylinder head) = failures.Image (images.BadTrack 
 image_failure images.Trailing = failures.Image images.Trailing
 image_failure images.BadTotal = failures.Image images.BadTotal
 
--- and as words name no files
-abbrev pub use_failure : ToolUsageError → ToolFailure
-use_failure uses.Memory = failures.Memory
-use_failure (uses.Usage text) = failures.Usage
-
 -- the line of a failure
 abbrev pub fault_text : ToolFailure → List ℕ
 fault_text (failures.Text line) = codes "fault: text Line " ++ decimal line
@@ -53,8 +46,3 @@ status_of (failures.Image error) = image_status error
 status_of (failures.File count) = 3
 status_of failures.Memory = 4
 status_of failures.Usage = 2
-
--- a program that reaches its end has status 0
-abbrev pub outcome_of : Result (Unit {0}) ToolFailure → ℕ
-outcome_of (Ok done) = 0
-outcome_of (Err failure) = status_of failure

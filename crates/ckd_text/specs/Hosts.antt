@@ -1,35 +1,45 @@
--- What a program of volumes asks of its host, and how the streams that it gives are used.
-use Rattle.std.specs.Prelude.{◌≡◌, ℕ, List, [], Option, Result, Ok, Err}
+-- How the files and streams that a host gives are used.
+use Rattle.std.specs.Prelude.{◌≡◌, ℕ, Bool, false, List, [], ◌∷◌, Option, Result, Ok, Err}
 use Rattle.std.specs.Io.KnownBytes.{Appends, Consumes, IsAtEnd}
 use Rattle.s370_num.specs.Host.{AppendsFront, IsCounted}
 use Rattle.s370_num.specs.declared.host.HostFault.{HostFault}
 use Rattle.s370_num.specs.declared.host.HostFault.TheVariants as hosts
+use Rattle.program_host.specs.Deeds.{Adds, Creates, Deed, IsUncreated, Misses, Opens, Prints}
 use Rattle.ckd_text.specs.Faults.{file_failure}
 use Rattle.ckd_text.specs.declared.faults.ToolFailure.{ToolFailure}
 
--- a stream fails for the first time, or there is no memory for it
-abbrev pub IsFirst : HostFault → Type 0
-IsFirst hosts.Memory = Unit {0}
-IsFirst (hosts.Device count) = count ≡ 1
+-- what asking a host for a stream may return, by what was asked of it before and after
+abbrev pub Giving : Type 0 → Type 1
+Giving S = Option (List Deed) → Result S HostFault → Option (List Deed) → Type 0
 
--- what asking a host for a stream may return, and what the host is before and after
-abbrev pub Giving : Type 0 → Type 0 → Type 1
-Giving H S = H → Result S HostFault → H → Type 0
+-- the file at a path is opened, or cannot be
+abbrev pub opening : {S : Type 0} → (List ℕ → S → Type 0) → List ℕ → Giving S
+opening Gives path old (Ok file) new = Gives path file × Adds old new (Opens path ∷ [])
+opening Gives path old (Err fault) new = (fault ≡ hosts.Device 1) × Adds old new (Misses path ∷ [])
+
+-- it is created, or not
+abbrev pub creating : {S : Type 0} → (List ℕ → S → Type 0) → List ℕ → Giving S
+creating Makes path old (Ok file) new = Makes path file × Adds old new (Creates path ∷ [])
+creating Makes path old (Err fault) new = IsUncreated path old new fault
+
+-- standard output is had, or there is no memory for it
+abbrev pub printing : {S : Type 0} → (Bool → S → Type 0) → Giving S
+printing Printed old (Ok output) new = Printed false output × Adds old new (Prints false ∷ [])
+printing Printed old (Err fault) new = (fault ≡ hosts.Memory) × Adds old new (Prints false ∷ [])
 
 -- the host gave a stream, which was used so: what it was at first, and what it is at last
-pub record IsUsed {H S : Type 0} (Gives : Giving H S) (Use : S → S → Type 0)
-    (old new : H) : Type 0 where
+pub record IsUsed {S : Type 0} (Gives : Giving S) (Use : S → S → Type 0)
+    (old new : Option (List Deed)) : Type 0 where
   pub first : S
   pub last : S
   pub given : Gives old (Ok first) new
   pub used : Use first last
 
 -- the host was asked for a stream and gave none, and that is the failure
-pub record IsWithheld {H S : Type 0} (Gives : Giving H S) (old new : H)
+pub record IsWithheld {S : Type 0} (Gives : Giving S) (old new : Option (List Deed))
     (failure : ToolFailure) : Type 0 where
   pub fault : HostFault
   pub withheld : Gives old (Err fault) new
-  pub first : IsFirst fault
   pub reported : failure ≡ file_failure fault
 
 -- a stream was read to its end, and these are all its bytes

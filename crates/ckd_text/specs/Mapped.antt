@@ -4,6 +4,7 @@ use Rattle.ckd_volume.specs.Volume.{VolumeFormat}
 use Rattle.ckd_image.specs.Faults.{CountsImage}
 use Rattle.ckd_image.specs.Reading.{ReadsImage}
 use Rattle.ckd_image.specs.declared.faults.ImageError.{ImageError}
+use Rattle.program_host.specs.Deeds.{Deed}
 use Rattle.ckd_text.specs.Faults.{image_failure}
 use Rattle.ckd_text.specs.Hosts.{Giving, IsCutAs, IsUsed, IsWithheld, IsWrittenAs}
 use Rattle.ckd_text.specs.Map.{map_of}
@@ -25,39 +26,39 @@ pub record IsNoImageIn {F : Type 0} (remaining : F → Option (List ℕ)) (count
   pub reported : failure ≡ image_failure error
 
 -- the image at the path was read, and the map of its volume was printed
-pub record IsMapped {H F P : Type 0} (Opens : List ℕ → Giving H F)
-    (Prints : Giving H P) (remaining : F → Option (List ℕ))
+pub record IsMapped {F P : Type 0} (Opens : List ℕ → Giving F)
+    (Prints : Giving P) (remaining : F → Option (List ℕ))
     (contents : P → Option (List ℕ)) (held : P → List ℕ) (path : List ℕ)
-    (old new : H) : Type 0 where
+    (old new : Option (List Deed)) : Type 0 where
   pub volume : VolumeFormat
-  pub between : H
+  pub between : Option (List Deed)
   pub read : IsUsed (Opens path) (IsImageIn remaining volume) old between
   pub printed : IsUsed Prints (IsWrittenAs contents held (map_of volume)) between new
 
 -- the image was not opened, or not read
-abbrev pub IsUnread : {H F : Type 0} → (List ℕ → Giving H F)
-    → (F → Option (List ℕ)) → (F → ℕ) → List ℕ → H → H → ToolFailure → Type 0
+abbrev pub IsUnread : {F : Type 0} → (List ℕ → Giving F)
+    → (F → Option (List ℕ)) → (F → ℕ) → List ℕ → Option (List Deed) → Option (List Deed) → ToolFailure → Type 0
 IsUnread Opens remaining count path old new failure =
     IsWithheld (Opens path) old new failure
     ⊎ IsUsed (Opens path) (IsNoImageIn remaining count failure) old new
 
 -- it was read, and there was no memory for the map, no standard output, or that failed before the
 -- map was printed to its end
-pub record IsUnprinted {H F P : Type 0} (Opens : List ℕ → Giving H F)
-    (Prints : Giving H P) (remaining : F → Option (List ℕ))
-    (contents : P → Option (List ℕ)) (count : P → ℕ) (path : List ℕ) (old new : H)
+pub record IsUnprinted {F P : Type 0} (Opens : List ℕ → Giving F)
+    (Prints : Giving P) (remaining : F → Option (List ℕ))
+    (contents : P → Option (List ℕ)) (count : P → ℕ) (path : List ℕ) (old new : Option (List Deed))
     (failure : ToolFailure) : Type 0 where
   pub volume : VolumeFormat
-  pub between : H
+  pub between : Option (List Deed)
   pub read : IsUsed (Opens path) (IsImageIn remaining volume) old between
   pub failed : ((failure ≡ failures.Memory) × (new ≡ between))
       ⊎ IsWithheld Prints between new failure
       ⊎ IsUsed Prints (IsCutAs contents count (map_of volume) failure) between new
 
 -- which of the two failed
-abbrev pub IsUnmapped : {H F P : Type 0} → (List ℕ → Giving H F)
-    → (Giving H P) → (F → Option (List ℕ)) → (F → ℕ)
-    → (P → Option (List ℕ)) → (P → ℕ) → List ℕ → H → H → ToolFailure → Type 0
+abbrev pub IsUnmapped : {F P : Type 0} → (List ℕ → Giving F)
+    → (Giving P) → (F → Option (List ℕ)) → (F → ℕ)
+    → (P → Option (List ℕ)) → (P → ℕ) → List ℕ → Option (List Deed) → Option (List Deed) → ToolFailure → Type 0
 IsUnmapped Opens Prints remaining read_failures contents failures path old new failure =
     IsUnread Opens remaining read_failures path old new failure
     ⊎ IsUnprinted Opens Prints remaining contents failures path old new failure

@@ -1,28 +1,16 @@
 //! The words of the programs: which files they are to read and to write.
-ghost use Rattle.std.specs.Prelude.{◌≡◌, ◌&&◌, ◌⊎◌, ◌↔◌, IfOk, IfErr, IfSome, None, OnOk, IsSome};
-ghost use Rattle.std.specs.Prelude.{Some, codes, map, option_map, true};
+ghost use Rattle.std.specs.Prelude.{◌≡◌, IfOk, IfErr, IfSome, OnOk, IsSome, Some, codes, map, true};
 ghost use Rattle.clap.specs.Words.{app_of, first_of, found_of, rows_of};
-ghost use Rattle.clap.specs.Values.{kind_of};
-ghost use Rattle.clap.specs.declared.error.kind.ErrorKind.TheVariants.{OutOfMemory};
-ghost use Rattle.ckd_text.specs.declared.arguments.Tool.TheVariants as tools;
-ghost use Rattle.ckd_text.specs.declared.arguments.ToolUsageError.TheVariants.{Memory};
-ghost use Rattle.ckd_text.specs.Options.{AreNamed, HasNoFault, command_of, gives, is_taken};
-ghost use Rattle.ckd_text.specs.Options.{rows_named};
+ghost use Rattle.program_host.specs.Words.{HasNoFault, is_taken, rows_named};
+ghost use Rattle.ckd_text.specs.Options.{AreNamed, gives, mkvol_command, trackmap_command};
 
-use clap::error::ErrorKind;
-use clap::{Arg, ArgMatches, Command, Error as ClapError};
+use clap::{Arg, ArgMatches, Command};
+use program_host::words::{UsageError, matched, text_of, usage};
 use std::alloc::{AllocError, Global};
 use std::convert::AsStr;
-use thiserror::Error;
 
-/// A program of volumes.
-#[derive(Clone, Copy, PartialEq, Eq)]
-pub enum Tool {
-    /// `mkvol OUT TEXT`
-    Mkvol,
-    /// `trackmap IMAGE`
-    Trackmap,
-}
+/// What is reported where a path is missing.
+const NO_PATH: &str = "a path is missing\n";
 
 /// What the words of `mkvol` name.
 #[derive(Drop)]
@@ -33,51 +21,30 @@ pub struct VolumePaths<'a> {
     pub text: &'a str,
 }
 
-/// Why the words of a program name no files.
-#[derive(Debug, Drop, Error)]
-pub enum ToolUsageError {
-    /// A growth was refused.
-    #[error("no memory for the words of the program")]
-    Memory,
-    /// The words are not those of the program, or ask for its help: the text for the person who
-    /// wrote them, of whole lines.
-    #[error("{0}")]
-    Usage(String),
-}
-
-impl From<AllocError> for ToolUsageError {
-    ghost from_gives = { λ _ error. error ≡ Memory };
-
-    /// Returns `ToolUsageError::Memory`, whatever the allocation was for.
-    fn from(_error: AllocError) -> ToolUsageError {
-        ToolUsageError::Memory
-    }
-}
-
 /// Returns the paths of image and text that the arguments of `mkvol` give, or the usage error.
 ///
 /// The first argument is the name that it was started by. Arguments are read as `clap` reads them:
 /// `--` before the paths is allowed, and `--help` is a request for the text of
-/// [`ToolUsageError::Usage`].
+/// [`UsageError::Usage`].
 ///
 /// # Errors
 ///
-/// A `ToolUsageError`: the text that says what is wrong with the arguments, or refused memory.
+/// A `UsageError`: the text that says what is wrong with the arguments, or refused memory.
 pub fn volume_paths<'a, S: AsStr>(
     alloc: Global,
     words: &'a [S],
-) -> Result<VolumePaths<'a>, ToolUsageError>
-    ensures ok { IfOk result (AreNamed (rows_named tools.Mkvol (map S.text words.entry.now))) }
-    ensures taken { OnOk result (HasNoFault tools.Mkvol (map S.text words.entry.now)) }
-    ensures err { is_taken tools.Mkvol (map S.text words.entry.now) ≡ true
-        → gives (codes "OUT") (rows_named tools.Mkvol (map S.text words.entry.now)) ≡ true
-        → gives (codes "TEXT") (rows_named tools.Mkvol (map S.text words.entry.now)) ≡ true
-        → IfErr result (λ error. error ≡ ToolUsageError.Memory) }
+) -> Result<VolumePaths<'a>, UsageError>
+    ensures ok { IfOk result (AreNamed (rows_named mkvol_command (map S.text words.entry.now))) }
+    ensures taken { OnOk result (HasNoFault mkvol_command (map S.text words.entry.now)) }
+    ensures err { is_taken mkvol_command (map S.text words.entry.now) ≡ true
+        → gives (codes "OUT") (rows_named mkvol_command (map S.text words.entry.now)) ≡ true
+        → gives (codes "TEXT") (rows_named mkvol_command (map S.text words.entry.now)) ≡ true
+        → IfErr result (λ error. error ≡ UsageError.Memory) }
 {
-    let matches = matched(alloc, Tool::Mkvol, words)?;
+    let matches = matched(alloc, mkvol_command(alloc)?, words)?;
     match paths_in(&matches) {
         Some(paths) => Ok(paths),
-        None => Err(ToolUsageError::Usage(String::from_str(alloc, "a path is missing\n")?)),
+        None => Err(usage(String::from_str(alloc, NO_PATH).ok())),
     }
 }
 
@@ -87,19 +54,19 @@ pub fn volume_paths<'a, S: AsStr>(
 ///
 /// # Errors
 ///
-/// A `ToolUsageError`: the text that says what is wrong with the arguments, or refused memory.
-pub fn image_path<'a, S: AsStr>(alloc: Global, words: &'a [S]) -> Result<&'a str, ToolUsageError>
-    ensures ok { IfOk result (λ path. first_of (codes "IMAGE") (rows_named tools.Trackmap (map S.text words.entry.now))
+/// A `UsageError`: the text that says what is wrong with the arguments, or refused memory.
+pub fn image_path<'a, S: AsStr>(alloc: Global, words: &'a [S]) -> Result<&'a str, UsageError>
+    ensures ok { IfOk result (λ path. first_of (codes "IMAGE") (rows_named trackmap_command (map S.text words.entry.now))
         ≡ Some path.now) }
-    ensures taken { OnOk result (HasNoFault tools.Trackmap (map S.text words.entry.now)) }
-    ensures err { is_taken tools.Trackmap (map S.text words.entry.now) ≡ true
-        → gives (codes "IMAGE") (rows_named tools.Trackmap (map S.text words.entry.now)) ≡ true
-        → IfErr result (λ error. error ≡ ToolUsageError.Memory) }
+    ensures taken { OnOk result (HasNoFault trackmap_command (map S.text words.entry.now)) }
+    ensures err { is_taken trackmap_command (map S.text words.entry.now) ≡ true
+        → gives (codes "IMAGE") (rows_named trackmap_command (map S.text words.entry.now)) ≡ true
+        → IfErr result (λ error. error ≡ UsageError.Memory) }
 {
-    let matches = matched(alloc, Tool::Trackmap, words)?;
+    let matches = matched(alloc, trackmap_command(alloc)?, words)?;
     match text_of(&matches, "IMAGE") {
         Some(path) => Ok(path),
-        None => Err(ToolUsageError::Usage(String::from_str(alloc, "a path is missing\n")?)),
+        None => Err(usage(String::from_str(alloc, NO_PATH).ok())),
     }
 }
 
@@ -114,62 +81,9 @@ fn paths_in<'a>(matches: &ArgMatches<'a>) -> Option<VolumePaths<'a>>
     Some(VolumePaths { out, text })
 }
 
-/// Returns the first value that the command line gives for the argument with this id, if it gives
-/// one.
-fn text_of<'a>(matches: &ArgMatches<'a>, id: &str) -> Option<&'a str>
-    ensures { option_map (λ s. s.now) result ≡ first_of id.now (rows_of (found_of matches.now)) }
-{
-    matches.get_str(id)
-}
-
-/// Returns the arguments of a program as `clap` reads them, or the usage error.
-fn matched<'a, S: AsStr>(
-    alloc: Global,
-    tool: Tool,
-    words: &'a [S],
-) -> Result<ArgMatches<'a>, ToolUsageError>
-    ensures ok { IfOk result
-        (λ m. rows_of (found_of m) ≡ rows_named tool (map S.text words.entry.now)) }
-    ensures taken { OnOk result (HasNoFault tool (map S.text words.entry.now)) }
-    ensures err { is_taken tool (map S.text words.entry.now) ≡ true
-        → IfErr result (λ error. error ≡ ToolUsageError.Memory) }
-{
-    let command = command(alloc, tool)?;
-    match command.try_get_matches_from(words) {
-        Ok(matches) => Ok(matches),
-        Err(error) => Err(refusal(&error, error.to_string(alloc).ok())),
-    }
-}
-
-/// Returns the usage error for an error of `clap`: this text, or `Memory` if memory was refused.
-fn refusal(error: &ClapError, text: Option<String>) -> ToolUsageError
-    ensures memory { (result ≡ ToolUsageError.Memory) ↔
-        ((kind_of error.now ≡ OutOfMemory) ⊎ (text ≡ None)) }
-    ensures usage { IfSome text
-        (λ reported. (kind_of error.now ≡ OutOfMemory) ⊎ (result ≡ ToolUsageError.Usage reported)) }
-{
-    if error.kind() == ErrorKind::OutOfMemory {
-        return ToolUsageError::Memory;
-    }
-    match text {
-        Some(text) => ToolUsageError::Usage(text),
-        None => ToolUsageError::Memory,
-    }
-}
-
-/// Returns the description of a program's command line for `clap`.
-fn command<'a>(alloc: Global, tool: Tool) -> Result<Command<'a>, AllocError>
-    ensures { IfOk result (λ c. app_of c ≡ command_of tool) }
-{
-    match tool {
-        Tool::Mkvol => mkvol_command(alloc),
-        Tool::Trackmap => trackmap_command(alloc),
-    }
-}
-
 /// Returns the description of the command line of `mkvol` for `clap`: the arguments OUT and TEXT.
 fn mkvol_command<'a>(alloc: Global) -> Result<Command<'a>, AllocError>
-    ensures { IfOk result (λ c. app_of c ≡ command_of tools.Mkvol) }
+    ensures { IfOk result (λ c. app_of c ≡ mkvol_command) }
 {
     let out = Arg::new(alloc, "OUT")
         .required(true)
@@ -186,7 +100,7 @@ fn mkvol_command<'a>(alloc: Global) -> Result<Command<'a>, AllocError>
 
 /// Returns the description of the command line of `trackmap` for `clap`: the argument IMAGE.
 fn trackmap_command<'a>(alloc: Global) -> Result<Command<'a>, AllocError>
-    ensures { IfOk result (λ c. app_of c ≡ command_of tools.Trackmap) }
+    ensures { IfOk result (λ c. app_of c ≡ trackmap_command) }
 {
     let image = Arg::new(alloc, "IMAGE").required(true).help(
         "The image of a volume (docs/FORMATS.md, \"Volume images\")",

@@ -1,11 +1,13 @@
 //! What the programs say of a failure, and their exit status.
 ghost use Rattle.std.specs.Prelude.{◌≡◌, IfOk, string_bytes};
+ghost use Rattle.std.proofs.Common.{ap};
 ghost use Rattle.ckd_text.specs.declared.faults.ToolFailure.TheVariants.{Memory};
-ghost use Rattle.ckd_text.specs.Faults.{fault_text, file_failure, image_failure, outcome_of};
-ghost use Rattle.ckd_text.specs.Faults.{status_of, text_failure};
+ghost use Rattle.ckd_text.specs.Faults.{fault_text, file_failure, image_failure, status_of};
+ghost use Rattle.ckd_text.specs.Faults.{text_failure};
 
 use crate::reader::TextError;
 use ckd_image::ImageError;
+use program_host::ProgramFailure;
 use s370_num::host::HostFault;
 use std::alloc::{AllocError, Global};
 
@@ -104,12 +106,49 @@ pub fn status(failure: &ToolFailure) -> u8
     }
 }
 
-/// Returns the exit status of a program that ended in this way: 0, or that of its failure.
-pub fn outcome(ended: &Result<(), ToolFailure>) -> u8
-    ensures { result ≡ outcome_of ended.now }
-{
-    match ended {
-        Ok(()) => 0,
-        Err(failure) => status(failure),
+impl ProgramFailure for ToolFailure {
+    ghost use Rattle.std.specs.Prelude.{None};
+    ghost use Rattle.ckd_text.specs.declared.faults.ToolFailure.TheVariants.{Memory, Usage};
+
+    ghost text = { fault_text };
+
+    ghost code = { status_of };
+
+    ghost unsaved = { λ _. None };
+
+    ghost is_memory = { λ failure. failure ≡ Memory };
+
+    ghost is_usage = { λ failure. failure ≡ Usage };
+
+    ghost memory_told = { λ failure memory. ap fault_text memory };
+
+    /// Returns the failure that memory was refused.
+    fn no_memory() -> ToolFailure {
+        ToolFailure::Memory
+    }
+
+    /// Returns the failure that the words are not those of the program.
+    fn wrong_words() -> ToolFailure {
+        ToolFailure::Usage
+    }
+
+    /// Returns whether the words are not those of the program.
+    fn is_wrong_words(&self) -> bool {
+        *self == ToolFailure::Usage
+    }
+
+    /// Returns the line that tells the failure, without its end.
+    fn line(&self, alloc: Global) -> Result<String, AllocError> {
+        fault_line(alloc, self)
+    }
+
+    /// Returns the exit status of the program.
+    fn status(&self) -> u8 {
+        status(self)
+    }
+
+    /// Returns no path: these programs save no image in place of another.
+    fn unsaved_path(&self) -> Option<&str> {
+        None
     }
 }

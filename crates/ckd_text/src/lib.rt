@@ -3,8 +3,7 @@
 //! A text states a volume (docs/FORMATS.md, "Volume texts"), and [`make_volume`] makes exactly the
 //! volume that it states, or says its first wrong line ([`reads_grammar`] says so of the grammar);
 //! [`mkvol`] is the program that does so with files. [`track_map`] says what a volume has
-//! (docs/FORMATS.md, "Track maps"), and [`trackmap`] is its program. The first word that
-//! [`program`] is started with names one of the two.
+//! (docs/FORMATS.md, "Track maps"), and [`trackmap`] is its program.
 //!
 //! ```
 //! use ckd_text::{TextError, make_volume, track_map};
@@ -21,15 +20,12 @@
 pub mod arguments;
 pub mod faults;
 mod fields;
-mod host;
 mod map;
 pub mod mkvol;
-mod programs;
 mod reader;
 mod statement;
 pub mod trackmap;
 
-pub use host::{ToolEnd, ToolHost};
+pub use faults::ToolFailure;
 pub use map::track_map;
-pub use programs::program;
 pub use reader::{TextError, make_volume, reads_grammar};

@@ -1,15 +1,17 @@
 //! The program `mkvol OUT TEXT`: the image of the volume that a text states.
-ghost use Rattle.std.specs.Prelude.{IfErr, OnOk, map, string_bytes};
+ghost use Rattle.std.specs.Prelude.{◌⊎◌, ℕ, IfErr, List, OnOk, map, string_bytes};
+ghost use Rattle.ckd_text.specs.Hosts.{creating, opening};
 ghost use Rattle.ckd_text.specs.Made.{IsMade, IsUnmade};
-ghost use Rattle.ckd_text.specs.Runs.{IsMadeNamed, IsUnmadeNamed};
+ghost use Rattle.ckd_text.specs.Runs.{IsMadeNamed, IsUnbegun, IsUnmadeNamed};
 
 use crate::arguments::{VolumePaths, volume_paths};
 use crate::faults::ToolFailure;
-use crate::host::{ToolHost, wrong_use};
 use crate::reader::make_volume;
 use ckd_image::write_image;
+use program_host::{ProcessHost, ProgramEnd, ProgramHost, finish, wrong_use};
 use s370_num::host::read_all;
 use std::alloc::Global;
+use std::rt::{Env, Files};
 
 /// What is reported after a usage text: an example, and the exit statuses.
 const USAGE_NOTE: &str = "
@@ -25,23 +27,49 @@ A fault is one line on standard error. Exit statuses:
   4  there was not memory enough
 ";
 
-/// Does what these words of `mkvol` ask: makes the image of a text. A usage error is printed here.
-pub(crate) fn obey<R: AllocGlobal + Eprint, H: ToolHost>(
+/// Runs `mkvol`: makes the image of a text, and prints a failure on standard error.
+pub fn program<R: AllocGlobal + Files + Env + Input + Print + Eprint>(
     rt: &R,
-    host: &mut H,
-    words: &[String],
-) -> Result<(), ToolFailure>
-    ensures ok { OnOk result
-        (IsMadeNamed H.opens H.creates H.File.remaining H.Image.contents H.Image.held
-        (map string_bytes words.now) host.old host.new) }
-    ensures err { IfErr result
-        (IsUnmadeNamed H.opens H.creates H.File.remaining H.File.HostFile.failures H.Image.contents
-        H.Image.HostFile.failures (map string_bytes words.now) host.old host.new) }
+) -> ProgramEnd<ToolFailure> {
+    let mut host = ProcessHost::new(rt);
+    let ended = run(rt.alloc(), &mut host);
+    finish(rt.alloc(), &mut host, ended)
+}
+
+/// Reads the words of the command line, and does what they ask.
+fn run<H: ProgramHost>(alloc: Global, host: &mut H) -> Result<(), ToolFailure>
+    ensures ok { OnOk result ((words : List (List ℕ)) × H.has_words host.old words
+        × IsMadeNamed (opening H.gives) (creating H.creates) H.File.remaining H.Image.contents
+        H.Image.held
+        words (H.deeds host.old) (H.deeds host.new)) }
+    ensures err { IfErr result (λ failure.
+        IsUnbegun (H.has_no_text host.old) (H.deeds host.old) (H.deeds host.new) failure
+        ⊎ ((words : List (List ℕ)) × H.has_words host.old words
+        × IsUnmadeNamed (opening H.gives) (creating H.creates) H.File.remaining
+        H.File.HostFile.failures H.Image.contents H.Image.HostFile.failures
+        words (H.deeds host.old) (H.deeds host.new) failure)) }
 {
-    let alloc = rt.alloc();
+    let words = match host.words(alloc) {
+        Ok(words) => words,
+        Err(error) => return Err(wrong_use(host, &error, "")),
+    };
+    obey(alloc, host, words.as_slice())
+}
+
+/// Does what these words of `mkvol` ask: makes the image of a text. A usage error is printed here.
+fn obey<H: ProgramHost>(alloc: Global, host: &mut H, words: &[String]) -> Result<(), ToolFailure>
+    ensures ok { OnOk result
+        (IsMadeNamed (opening H.gives) (creating H.creates) H.File.remaining H.Image.contents
+        H.Image.held
+        (map string_bytes words.now) (H.deeds host.old) (H.deeds host.new)) }
+    ensures err { IfErr result
+        (IsUnmadeNamed (opening H.gives) (creating H.creates) H.File.remaining
+        H.File.HostFile.failures H.Image.contents H.Image.HostFile.failures
+        (map string_bytes words.now) (H.deeds host.old) (H.deeds host.new)) }
+{
     let paths = match volume_paths(alloc, words) {
         Ok(paths) => paths,
-        Err(error) => return Err(wrong_use(rt, &error, USAGE_NOTE)),
+        Err(error) => return Err(wrong_use(host, &error, USAGE_NOTE)),
     };
     make_image(alloc, host, &paths)
 }
@@ -55,17 +83,19 @@ pub(crate) fn obey<R: AllocGlobal + Eprint, H: ToolHost>(
 ///
 /// A `ToolFailure`: the first fault of the text or the image, a failure of a file, or refused
 /// memory.
-pub fn make_image<H: ToolHost>(
+pub fn make_image<H: ProgramHost>(
     alloc: Global,
     host: &mut H,
     paths: &VolumePaths<'_>,
 ) -> Result<(), ToolFailure>
     ensures ok { OnOk result
-        (IsMade H.opens H.creates H.File.remaining H.Image.contents H.Image.held paths.now host.old
-        host.new) }
+        (IsMade (opening H.gives) (creating H.creates) H.File.remaining H.Image.contents
+        H.Image.held paths.now
+        (H.deeds host.old) (H.deeds host.new)) }
     ensures err { IfErr result
-        (IsUnmade H.opens H.creates H.File.remaining H.File.HostFile.failures H.Image.contents
-        H.Image.HostFile.failures paths.now host.old host.new) }
+        (IsUnmade (opening H.gives) (creating H.creates) H.File.remaining
+        H.File.HostFile.failures H.Image.contents H.Image.HostFile.failures
+        paths.now (H.deeds host.old) (H.deeds host.new)) }
 {
     let mut file = host.open(paths.text)?;
     let text = read_all(alloc, &mut file)?;

@@ -1,15 +1,17 @@
 //! The program `trackmap IMAGE`: what the volume of an image has.
-ghost use Rattle.std.specs.Prelude.{IfErr, OnOk, map, string_bytes};
+ghost use Rattle.std.specs.Prelude.{◌⊎◌, ℕ, IfErr, List, OnOk, map, string_bytes};
+ghost use Rattle.ckd_text.specs.Hosts.{opening, printing};
 ghost use Rattle.ckd_text.specs.Mapped.{IsMapped, IsUnmapped};
-ghost use Rattle.ckd_text.specs.Runs.{IsMappedNamed, IsUnmappedNamed};
+ghost use Rattle.ckd_text.specs.Runs.{IsMappedNamed, IsUnbegun, IsUnmappedNamed};
 
 use crate::arguments::image_path;
 use crate::faults::ToolFailure;
-use crate::host::{ToolHost, wrong_use};
 use crate::map::track_map;
 use ckd_image::read_image;
+use program_host::{ProcessHost, ProgramEnd, ProgramHost, finish, wrong_use};
 use s370_num::host::{HostWriter, write_all};
 use std::alloc::Global;
+use std::rt::{Env, Files};
 
 /// What is reported after a usage text: an example, and the exit statuses.
 const USAGE_NOTE: &str = "
@@ -26,25 +28,49 @@ The map goes to standard output, a fault as one line to standard error. Exit sta
   4  there was not memory enough
 ";
 
-/// Does what these words of `trackmap` ask: prints the map of an image. A usage error is printed
-/// here.
-pub(crate) fn obey<R: AllocGlobal + Eprint, H: ToolHost>(
+/// Runs `trackmap`: prints the map of an image, and prints a failure on standard error.
+pub fn program<R: AllocGlobal + Files + Env + Input + Print + Eprint>(
     rt: &R,
-    host: &mut H,
-    words: &[String],
-) -> Result<(), ToolFailure>
-    ensures ok { OnOk result
-        (IsMappedNamed H.opens H.prints H.File.remaining H.Printer.contents H.Printer.held
-        (map string_bytes words.now) host.old host.new) }
-    ensures err { IfErr result
-        (IsUnmappedNamed H.opens H.prints H.File.remaining H.File.HostFile.failures
-        H.Printer.contents H.Printer.HostFile.failures (map string_bytes words.now) host.old
-        host.new) }
+) -> ProgramEnd<ToolFailure> {
+    let mut host = ProcessHost::new(rt);
+    let ended = run(rt.alloc(), &mut host);
+    finish(rt.alloc(), &mut host, ended)
+}
+
+/// Reads the words of the command line, and does what they ask.
+fn run<H: ProgramHost>(alloc: Global, host: &mut H) -> Result<(), ToolFailure>
+    ensures ok { OnOk result ((words : List (List ℕ)) × H.has_words host.old words
+        × IsMappedNamed (opening H.gives) (printing H.prints) H.File.remaining H.Output.contents
+        H.Output.held
+        words (H.deeds host.old) (H.deeds host.new)) }
+    ensures err { IfErr result (λ failure.
+        IsUnbegun (H.has_no_text host.old) (H.deeds host.old) (H.deeds host.new) failure
+        ⊎ ((words : List (List ℕ)) × H.has_words host.old words
+        × IsUnmappedNamed (opening H.gives) (printing H.prints) H.File.remaining
+        H.File.HostFile.failures H.Output.contents H.Output.HostFile.failures
+        words (H.deeds host.old) (H.deeds host.new) failure)) }
 {
-    let alloc = rt.alloc();
+    let words = match host.words(alloc) {
+        Ok(words) => words,
+        Err(error) => return Err(wrong_use(host, &error, "")),
+    };
+    obey(alloc, host, words.as_slice())
+}
+
+/// Does what these words of `trackmap` ask: prints the map of an image. A usage error is printed here.
+fn obey<H: ProgramHost>(alloc: Global, host: &mut H, words: &[String]) -> Result<(), ToolFailure>
+    ensures ok { OnOk result
+        (IsMappedNamed (opening H.gives) (printing H.prints) H.File.remaining H.Output.contents
+        H.Output.held
+        (map string_bytes words.now) (H.deeds host.old) (H.deeds host.new)) }
+    ensures err { IfErr result
+        (IsUnmappedNamed (opening H.gives) (printing H.prints) H.File.remaining
+        H.File.HostFile.failures H.Output.contents H.Output.HostFile.failures
+        (map string_bytes words.now) (H.deeds host.old) (H.deeds host.new)) }
+{
     let path = match image_path(alloc, words) {
         Ok(path) => path,
-        Err(error) => return Err(wrong_use(rt, &error, USAGE_NOTE)),
+        Err(error) => return Err(wrong_use(host, &error, USAGE_NOTE)),
     };
     print_map(alloc, host, path)
 }
@@ -54,18 +80,20 @@ pub(crate) fn obey<R: AllocGlobal + Eprint, H: ToolHost>(
 /// # Errors
 ///
 /// A `ToolFailure`: the first fault of the image, a failure of a file, or refused memory.
-pub fn print_map<H: ToolHost>(alloc: Global, host: &mut H, path: &str) -> Result<(), ToolFailure>
+pub fn print_map<H: ProgramHost>(alloc: Global, host: &mut H, path: &str) -> Result<(), ToolFailure>
     ensures ok { OnOk result
-        (IsMapped H.opens H.prints H.File.remaining H.Printer.contents H.Printer.held path.now
-        host.old host.new) }
+        (IsMapped (opening H.gives) (printing H.prints) H.File.remaining H.Output.contents
+        H.Output.held path.now
+        (H.deeds host.old) (H.deeds host.new)) }
     ensures err { IfErr result
-        (IsUnmapped H.opens H.prints H.File.remaining H.File.HostFile.failures H.Printer.contents
-        H.Printer.HostFile.failures path.now host.old host.new) }
+        (IsUnmapped (opening H.gives) (printing H.prints) H.File.remaining
+        H.File.HostFile.failures H.Output.contents H.Output.HostFile.failures
+        path.now (H.deeds host.old) (H.deeds host.new)) }
 {
     let mut file = host.open(path)?;
     let volume = read_image(alloc, &mut file)?;
     let map = track_map(alloc, &volume)?;
-    let mut output = host.standard_output()?;
+    let mut output = host.output(false)?;
     write_all(&mut output, &map)?;
     output.flush()?;
     Ok(())

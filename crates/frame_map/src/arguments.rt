@@ -3,11 +3,11 @@ ghost use Rattle.std.specs.Prelude.{◌≡◌, IfErr, IfOk, OnOk, codes, false, 
 ghost use Rattle.clap.specs.Words.{app_of, first_of, found_of, rows_of, rule_of};
 ghost use Rattle.cp_core.specs.Sizes.{SystemSizes};
 ghost use Rattle.vm370.specs.Options.{IsNamed, IsSized, gives_paths};
-ghost use Rattle.frame_map.specs.Options.{HasNoFault, command_of, is_taken, rows_named};
-ghost use Rattle.frame_map.specs.Options.{state_rule};
+ghost use Rattle.program_host.specs.Words.{HasNoFault, is_taken, rows_named};
+ghost use Rattle.frame_map.specs.Options.{command_of, state_rule};
 
 use clap::{Arg, ArgAction, ArgMatches, Command};
-use programs::words::{UsageError, refusal, text_of};
+use program_host::words::{UsageError, matched, text_of};
 use std::alloc::{AllocError, Global};
 use std::convert::AsStr;
 use vm370::arguments::{Options, options_of};
@@ -34,41 +34,22 @@ pub fn arguments<'a, S: AsStr>(
     words: &'a [S],
 ) -> Result<MapOptions<'a>, UsageError>
     ensures run { IfOk result (λ options.
-        IsNamed (rows_named program.entry.now (map S.text words.entry.now)) options.run) }
+        IsNamed (rows_named (command_of program.entry.now) (map S.text words.entry.now)) options.run) }
     ensures state { IfOk result (λ options. option_map (λ path. path.now) options.state
-        ≡ first_of (codes "state") (rows_named program.entry.now (map S.text words.entry.now))) }
-    ensures taken { OnOk result (HasNoFault program.entry.now (map S.text words.entry.now)) }
+        ≡ first_of (codes "state") (rows_named (command_of program.entry.now) (map S.text words.entry.now))) }
+    ensures taken { OnOk result (HasNoFault (command_of program.entry.now) (map S.text words.entry.now)) }
     ensures err { (sizes : SystemSizes)
-        → is_taken program.entry.now (map S.text words.entry.now) ≡ true →
-        gives_paths (rows_named program.entry.now (map S.text words.entry.now)) ≡ true →
-        IsSized (rows_named program.entry.now (map S.text words.entry.now)) sizes →
+        → is_taken (command_of program.entry.now) (map S.text words.entry.now) ≡ true →
+        gives_paths (rows_named (command_of program.entry.now) (map S.text words.entry.now)) ≡ true →
+        IsSized (rows_named (command_of program.entry.now) (map S.text words.entry.now)) sizes →
         IfErr result (λ error. error ≡ UsageError.Memory) }
 {
-    let matches = matched(alloc, program, words)?;
+    let matches = matched(alloc, command(alloc, program)?, words)?;
     let run = options_of(alloc, &matches)?;
     Ok(MapOptions {
         run,
         state: text_of(&matches, "state"),
     })
-}
-
-/// Returns what `clap` finds in the words of a command line, or the usage error.
-fn matched<'a, S: AsStr>(
-    alloc: Global,
-    program: &'a str,
-    words: &'a [S],
-) -> Result<ArgMatches<'a>, UsageError>
-    ensures ok { IfOk result
-        (λ m. rows_of (found_of m) ≡ rows_named program.entry.now (map S.text words.entry.now)) }
-    ensures taken { OnOk result (HasNoFault program.entry.now (map S.text words.entry.now)) }
-    ensures err { is_taken program.entry.now (map S.text words.entry.now) ≡ true
-        → IfErr result (λ error. error ≡ UsageError.Memory) }
-{
-    let command = command(alloc, program)?;
-    match command.try_get_matches_from(words) {
-        Ok(matches) => Ok(matches),
-        Err(error) => Err(refusal(&error, error.to_string(alloc).ok())),
-    }
 }
 
 /// Returns the description of the program's command line for `clap`.

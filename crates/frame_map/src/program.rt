@@ -6,8 +6,8 @@
 use crate::arguments::{MapOptions, arguments};
 use crate::map::frame_map;
 use crate::nowhere::Nowhere;
-use programs::program::{output, words, wrong_use};
-use programs::{Failure, FileStore, HostFiles, ProgramEnd, finish, save_images, saved_paths};
+use program_host::{ProcessHost, ProgramEnd, ProgramHost, finish, wrong_use};
+use programs::{Failure, save_images, saved_paths};
 use s370_num::host::{HostWriter, read_all, write_all};
 use sessions::session::session;
 use sessions::{Detail, Follower, Part};
@@ -40,74 +40,79 @@ The map goes to standard output, a fault as one line to standard error. Exit sta
 /// Runs the whole program: plays the script that its arguments name, prints the map of frames and
 /// slots that it leaves, and saves the volumes if `--save` is given; reports a failure on standard
 /// error.
-pub fn program<R: AllocGlobal + Files + Env + Print + Eprint>(rt: &R) -> ProgramEnd {
-    finish(rt, run(rt))
+pub fn program<R: AllocGlobal + Files + Env + Input + Print + Eprint>(
+    rt: &R,
+) -> ProgramEnd<Failure> {
+    let mut host = ProcessHost::new(rt);
+    let ended = run(rt.alloc(), &mut host);
+    finish(rt.alloc(), &mut host, ended)
 }
 
 /// Reads the arguments, the directory, the images and the script, plays the script, writes the map,
 /// and saves the volumes if `--save` is given.
 ///
 /// A wrong use is reported here.
-fn run<R: AllocGlobal + Files + Env + Print + Eprint>(rt: &R) -> Result<(), Failure> {
-    let alloc = rt.alloc();
-    let words = words(rt, PROGRAM)?;
+fn run<H: ProgramHost>(alloc: Global, host: &mut H) -> Result<(), Failure> {
+    let words = match host.words(alloc) {
+        Ok(words) => words,
+        Err(error) => return Err(wrong_use(host, &error, "")),
+    };
     let options = match arguments(alloc, PROGRAM, words.as_slice()) {
         Ok(options) => options,
-        Err(error) => return Err(wrong_use(rt, &error, USAGE_NOTE)),
+        Err(error) => return Err(wrong_use(host, &error, USAGE_NOTE)),
     };
     let run = &options.run;
     let volumes = run.volumes.as_slice();
-    let mut files = HostFiles::new(rt);
-    let machines = read_system(alloc, &mut files, run.directory, volumes, run.sizes)?;
-    let machines = run_script(alloc, &mut files, machines, &options)?;
+    let machines = read_system(alloc, host, run.directory, volumes, run.sizes)?;
+    let machines = run_script(alloc, host, machines, &options)?;
     let map = frame_map(alloc, machines.system(), run.sizes)?;
-    let mut output = output(rt, false)?;
+    let mut output = host.output(false)?;
     write_all(&mut output, &map)?;
     output.flush()?;
-    save_images(alloc, &mut files, &machines, saved_paths(run.save, volumes))
+    save_images(alloc, host, &machines, saved_paths(run.save, volumes))
 }
 
 /// Plays the script, from the state if one is named, without keeping its transcript, and returns
 /// the machines that it leaves.
-fn run_script<F: FileStore>(
+fn run_script<H: ProgramHost>(
     alloc: Global,
-    files: &mut F,
+    host: &mut H,
     machines: SharedMachines,
     options: &MapOptions<'_>,
 ) -> Result<SharedMachines, Failure> {
     if let Some(state) = options.state {
         let begun = Follower::begin(alloc, machines, Detail::Whole)?;
-        let follower = restored(alloc, files, begun, state)?;
-        return follow(alloc, files, follower, options.run.script);
+        let follower = restored(alloc, host, begun, state)?;
+        return follow(alloc, host, follower, options.run.script);
     }
     let mut machines = machines;
-    let mut script = files.open(options.run.script)?;
+    let mut script = host.open(options.run.script)?;
     session(alloc, &mut machines, &mut script, &mut Nowhere)?;
     Ok(machines)
 }
 
 /// Reads the state at this path, and returns the follower that it restores; a failure if it is none
 /// of this follower.
-fn restored<F: FileStore>(
+fn restored<H: ProgramHost>(
     alloc: Global,
-    files: &mut F,
+    host: &mut H,
     follower: Follower<SharedMachines>,
     state: &str,
 ) -> Result<Follower<SharedMachines>, Failure> {
-    let mut file = files.open(state)?;
+    let mut file = host.open(state)?;
     let bytes = read_all(alloc, &mut file)?;
     Ok(follower.restored(alloc, &bytes)?)
 }
 
 /// Does the script at this path, whose last line need not be ended, as one part, and returns the
 /// machines that it leaves.
-fn follow<F: FileStore>(
+fn follow<H: ProgramHost>(
     alloc: Global,
-    files: &mut F,
+    host: &mut H,
     follower: Follower<SharedMachines>,
     script: &str,
 ) -> Result<SharedMachines, Failure> {
-    let mut file = files.open(script)?;
+    let mut file = host.open(script)?;
     let mut text = read_all(alloc, &mut file)?;
     if !text.is_empty() && text.last() != Some(&b'\n') {
         let Ok(()) = text.push(b'\n') else {

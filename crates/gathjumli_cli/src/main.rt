@@ -20,16 +20,19 @@ const USAGE: &str = "Usage: vm370 [--frames N] [--slots N] [--save] DIRECTORY SC
 ";
 
 /// Runs the part that the first argument names. `vm370` and `bare370` write their transcript as its
-/// lines come if standard output is a terminal.
-///
-/// `ckd_text` reports a usage error if the first argument names none of its parts either.
+/// lines come if standard output is a terminal. Where no part is named, that is a wrong use.
 fn main(rt: HostRuntime) -> PartEnd {
     let is_watched = rt.stdout().is_terminal();
     match named_part(&rt) {
         Some(Part::Vm370) => PartEnd::Session(vm370::program::program(&rt, is_watched)),
         Some(Part::Bare370) => PartEnd::Session(bare370::bare_program(&rt, is_watched)),
         Some(Part::FrameMap) => PartEnd::Session(frame_map::program::program(&rt)),
+        Some(Part::Mkvol) => PartEnd::Volume(ckd_text::mkvol::program(&rt)),
+        Some(Part::Trackmap) => PartEnd::Volume(ckd_text::trackmap::program(&rt)),
         Some(Part::LogonDesk) => PartEnd::Desk(logon_desk_cli::program::program(&rt)),
-        None => PartEnd::Volume(ckd_text::program(&rt, USAGE)),
+        None => {
+            let _ = rt.eprint(USAGE);
+            PartEnd::NoPart
+        }
     }
 }

@@ -7,7 +7,7 @@ use std::rt::Env;
 /// The most bytes of a part's name.
 const LONGEST_NAME: usize = 9;
 
-/// A part of the program other than those of volumes, which `ckd_text` knows.
+/// A part of the program.
 pub enum Part {
     /// `vm370`: the machines of many users on one system.
     Vm370,
@@ -15,6 +15,10 @@ pub enum Part {
     Bare370,
     /// `framemap`: who has which frame and which slot.
     FrameMap,
+    /// `mkvol`: the image of a volume from a text.
+    Mkvol,
+    /// `trackmap`: what a volume has.
+    Trackmap,
     /// `logondesk`: who is let in to whose machine.
     LogonDesk,
 }
@@ -39,6 +43,10 @@ fn part_of(name: &str) -> Option<Part>
         Some(Part::Bare370)
     } else if name == "framemap" {
         Some(Part::FrameMap)
+    } else if name == "mkvol" {
+        Some(Part::Mkvol)
+    } else if name == "trackmap" {
+        Some(Part::Trackmap)
     } else if name == "logondesk" {
         Some(Part::LogonDesk)
     } else {

@@ -1,14 +1,18 @@
 -- What words ask for, as strings and as their bytes.
-use Rattle.std.proofs.Common.{◌≡◌, ◌∙◌, ◌||◌, Bool, true, false, not, List, [], ◌∷◌, cond, map, codes, string_bytes}
+use Rattle.std.proofs.Common.{◌≡◌, ◌∙◌, ◌⊎◌, ◌||◌, Bool, true, false, not, ℕ, List, [], ◌∷◌, Option, cond, map, codes, string_bytes}
 use Rattle.std.proofs.Common.{Global, String, inl, inr, refl, ap, sym}
 use Rattle.std.specs.Prelude.{take_while}
 use Rattle.std.specs.List.{list_any}
 use Rattle.std.specs.Str.{bytes_eq}
 use Rattle.std.proofs.lemmas.List.Sums.{take_while-cons}
 use Rattle.programs.specs.Arguments.{IsUnbegun, asks_to_follow}
-use Rattle.programs.specs.Faults.{use_failure}
-use Rattle.programs.specs.declared.words.UsageError.{UsageError}
-use Rattle.programs.specs.declared.words.UsageError.TheVariants as uses
+use Rattle.program_host.specs.Ends.{IsUseFailure, use_complaints}
+use Rattle.program_host.specs.Deeds.{Adds, Deed}
+use Rattle.programs.specs.declared.faults.Failure.{Failure}
+use Rattle.programs.specs.declared.faults.Failure.TheVariants as failures
+use Rattle.program_host.specs.declared.words.UsageError.{UsageError}
+use Rattle.program_host.specs.declared.words.UsageError.TheVariants as uses
+use Rattle.program_host.proofs.Deeds.{adds_more}
 
 front_by : {X Y : Type 0} (b : Bool) (p : Y → Bool) (f : X → Y) (x : X) (xs : List X) (ys : List Y)
     → list_any (λ x. p (f x)) xs ≡ list_any p ys
@@ -33,7 +37,32 @@ asked words = front_any (string_bytes {Z = Global}) (λ text. bytes_eq text (cod
     (λ text. not (bytes_eq text (codes "--"))) words
 
 -- An error that is lack of memory if the words are right begins nothing.
-pub unbegun : {Misuse : Type 0} (error : UsageError) → ((error ≡ uses.Memory → ⊥) → Misuse)
-    → IsUnbegun Misuse (use_failure error)
-unbegun uses.Memory h = inl refl
-unbegun (uses.Usage text) h = inr (refl, h (λ e. cc e))
+pub unbegun : {Misuse : Type 0} (streams : List Deed) (old new : Option (List Deed)) (error : UsageError)
+    (note : List ℕ) (failure : Failure)
+    → IsUseFailure (λ f. f ≡ failures.Memory) (λ f. f ≡ failures.Usage) error failure
+    → ((error ≡ uses.Memory → ⊥) → Misuse) → Adds old new (use_complaints error note)
+    → IsUnbegun streams Misuse old new failure
+unbegun streams old new uses.Memory note failure is h told = inl (is, (0, told))
+unbegun streams old new (uses.Usage text) note failure is h told =
+    inr (is, h (λ e. cc e), record { text = string_bytes {Z = Global} text; note = note; told = told })
+
+-- No memory for the first of the streams begins nothing.
+pub no_first : {Misuse : Type 0} (stream : Deed) (streams : List Deed) (old new : Option (List Deed))
+    → Adds old new (stream ∷ []) → IsUnbegun (stream ∷ streams) Misuse old new failures.Memory
+no_first stream streams old new asked = inl (refl, (1, asked))
+
+-- nor for the second
+pub no_second : {Misuse : Type 0} (first second : Deed) (old between new : Option (List Deed))
+    → Adds old between (first ∷ []) → Adds between new (second ∷ [])
+    → IsUnbegun (first ∷ second ∷ []) Misuse old new failures.Memory
+no_second first second old between new one other =
+    inl (refl, (2, adds_more old between new (first ∷ []) (second ∷ []) one other))
+
+-- Words that were not read begin nothing: memory was refused, or this holds, one of them is no text.
+pub unread : {NoText : Type 0} (old new : Option (List Deed)) (error : UsageError) (note : List ℕ) (failure : Failure)
+    → IsUseFailure (λ f. f ≡ failures.Memory) (λ f. f ≡ failures.Usage) error failure
+    → (error ≡ uses.Memory) ⊎ NoText → Adds old new (use_complaints error note)
+    → IsUnbegun [] NoText old new failure
+unread old new error note failure is h told =
+    unbegun [] old new error note failure is
+    (λ other. elim h [ inl memory ↦ absurd (other memory) | inr none ↦ none ]) told

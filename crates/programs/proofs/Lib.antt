@@ -8,4 +8,3 @@ pub mod Fronts
 pub mod Exchanges
 mod Told
 pub mod Causes
-pub mod Deeds

@@ -3,6 +3,8 @@
 use Rattle.std.specs.Prelude.{◌≡◌, ◌⊎◌, ℕ, ◌+◌, ◌≤◌, Bool, true, if◌then◌else◌, List, [], ◌∷◌}
 use Rattle.std.specs.Prelude.{length}
 use Rattle.std.specs.Prelude.{slice_get, string_bytes, Option, Some, None}
+use Rattle.ckd_image.specs.declared.faults.ImageError.{ImageError}
+use Rattle.ckd_image.specs.declared.faults.ImageError.TheVariants as images
 use Rattle.ckd_volume.specs.Volume.{VolumeFormat}
 use Rattle.sessions.specs.Installed.{Installation}
 use Rattle.sessions.specs.Session.{IsCut, IsRefused, IsSession}
@@ -11,7 +13,8 @@ use Rattle.sessions.specs.declared.faults.SessionError.TheVariants as ends
 use Rattle.sessions.specs.declared.schedule.Detail.{Detail}
 use Rattle.sessions.specs.declared.schedule.Detail.TheVariants.{Whole}
 use Rattle.programs.specs.Faults.{session_failure}
-use Rattle.programs.specs.Opened.{Adds, AddsFirst, Deed, Opens, saves}
+use Rattle.program_host.specs.Deeds.{Adds, AddsFirst, Deed, Loses, Misses, Opens, saves}
+use Rattle.programs.specs.Opened.{Unmaking}
 use Rattle.programs.specs.Parts.{FailureCounts, HasFailed, IsBrokenOff, IsLeft}
 use Rattle.programs.specs.declared.faults.Failure.{Failure}
 use Rattle.programs.specs.declared.faults.Failure.TheVariants as failures
@@ -24,24 +27,30 @@ saved_of save paths = if save then paths else []
 
 -- ---- images that are not saved
 
--- the path that is reported of an image that is not saved
-abbrev pub unsaved_path : Failure → Option (List ℕ)
-unsaved_path (failures.Unsaved error path) = Some (string_bytes path)
-unsaved_path _ = None
+-- the failure tells this path, and why the image is not written to it
+abbrev pub Tells : ImageError → List ℕ → Failure → Type 0
+Tells error path (failures.Unsaved cause place) = (cause ≡ error) × (string_bytes place ≡ path)
+Tells error path _ = ⊥
 
--- so many images were asked to be saved before; the path of the next is reported, or there is no
--- volume for that
+-- why an image is not written to this path: writing its volume's failed, or there is no volume for
+-- it
+abbrev pub IsLost : Option VolumeFormat → List ℕ → Unmaking
+IsLost None path old new failure = Tells images.Truncated path failure × Adds old new []
+IsLost (Some volume) path old new failure = (error : ImageError)
+    × Tells error path failure × Adds old new (Loses path volume error ∷ [])
+
+-- so many images were written, and the next was not
 pub record IsUnsavedAt (paths : List (List ℕ)) (volumes : List VolumeFormat)
     (old new : Option (List Deed)) (failure : Failure) : Type 0 where
   pub before : ℕ
   pub path : List ℕ
+  pub between : Option (List Deed)
   pub place : Some path ≡ slice_get paths before
-  pub reported : unsaved_path failure ≡ Some path
-  pub deeds : AddsFirst (before + 1) old new (saves paths volumes)
+  pub saved : AddsFirst before old between (saves paths volumes)
+  pub lost : IsLost (slice_get volumes before) path between new failure
 
 -- or there was no memory for the paths, and none was asked for
-abbrev pub IsUnsaved : List (List ℕ) → List VolumeFormat → Option (List Deed) → Option (List Deed)
-    → Failure → Type 0
+abbrev pub IsUnsaved : List (List ℕ) → List VolumeFormat → Unmaking
 IsUnsaved paths volumes old new failure =
     ((failure ≡ failures.Memory) × Adds old new []) ⊎ IsUnsavedAt paths volumes old new failure
 
@@ -67,7 +76,7 @@ pub record IsUnopened {W : Type 0} (script : List ℕ) (first last : W)
   pub reported : failure ≡ failures.File 1
   pub same : last ≡ first
   pub unwritten : writer_new ≡ writer_old
-  pub deeds : Adds deeds_old deeds_new (Opens script ∷ [])
+  pub deeds : Adds deeds_old deeds_new (Misses script ∷ [])
 
 -- a script is refused by its first wrong line, a file by its count, and a spent installation does
 -- none

@@ -17,7 +17,7 @@ use Rattle.sessions.specs.Installed.{Installation, IsHistory, Step, names_of}
 use Rattle.sessions.specs.Schedule.{Act, Applies, Slices, Serves, AreDone, Entry, Answered, Dealt, Passed, Idle, IsDone}
 use Rattle.sessions.specs.Schedule.{IsLacking, IsOf, MayAsk, Scene, acts, acts_of, line_after, lines_after}
 use Rattle.sessions.specs.Schedule.{passed, ready_in, scene, slice_units, steps_of, turn, turns, user_said, within}
-use Rattle.sessions.specs.Session.{IsAnswered, IsAnsweredPartly, IsPlayed, IsPartly, IsUnanswered}
+use Rattle.sessions.specs.Session.{AreWrittenAlmost, IsAnswered, IsAnsweredPartly, IsPlayed, IsPartly, IsUnanswered}
 use Rattle.sessions.specs.Transcript.{ended, entry_lines, passed_lines, step_lines, transcript}
 use Rattle.sessions.specs.declared.schedule.Detail.{Detail}
 use Rattle.sessions.specs.declared.schedule.Detail.TheVariants.{Whole}
@@ -151,6 +151,57 @@ played_more i xs ys old mid new a b c p q =
       dealing = q.dealing;
     }
 
+-- what follows was written almost
+almost_more : {W : Type 0} (i : Installation W) (old mid : Scene W) (es fs : List (Entry W)) (a b c : Option (List ℕ))
+    → (i.seen mid.world).users ≡ (i.seen old.world).users → mid.detail ≡ old.detail
+    → Appends a b (transcript i old.detail (names_of (i.seen old.world)) es)
+    → AreWrittenAlmost i mid.detail (names_of (i.seen mid.world)) fs [] b c
+    → AreWrittenAlmost i old.detail (names_of (i.seen old.world)) (es ++ fs) [] a c
+almost_more {W} i old mid es fs a b c users detail one q =
+    let names = names_of (i.seen old.world) in
+    let whole = subst (λ (t : List ℕ). Appends b q.between t) (told_same i old mid q.earlier users detail) q.whole in
+    record {
+      earlier = es ++ q.earlier;
+      latest = q.latest;
+      between = q.between;
+      split = ap (λ (l : List (Entry W)). es ++ l) q.split ∙ sym (append_assoc es q.earlier q.latest);
+      few = q.few;
+      whole = rw (transcript_append i old.detail names es q.earlier)
+          (Appends-trans a b q.between (transcript i old.detail names es) (transcript i old.detail names q.earlier) one
+          whole);
+      front = subst (λ (t : List ℕ). AppendsFront q.between c (t ++ [])) (told_same i old mid q.latest users detail)
+          q.front;
+    }
+
+-- nothing was done, and nothing written
+almost_none : {W : Type 0} (i : Installation W) (detail : Detail) (names : List (List ℕ)) (a b : Option (List ℕ))
+    → AppendsFront a b [] → AreWrittenAlmost i detail names [] [] a b
+almost_none i detail names a b h = record {
+  earlier = [];
+  latest = [];
+  between = a;
+  split = refl;
+  few = omega arith;
+  whole = Appends-nil a;
+  front = h;
+}
+
+-- one thing was done, and a beginning of its lines was written
+almost_one : {W : Type 0} (i : Installation W) (detail : Detail) (names : List (List ℕ)) (entry : Entry W)
+    (a b : Option (List ℕ)) → AppendsFront a b (ended (entry_lines i detail names entry))
+    → AreWrittenAlmost i detail names (entry ∷ []) [] a b
+almost_one i detail names entry a b h =
+    let lines = ended (entry_lines i detail names entry) in
+    record {
+      earlier = [];
+      latest = entry ∷ [];
+      between = a;
+      split = refl;
+      few = omega arith;
+      whole = Appends-nil a;
+      front = rw (append-nil (lines ++ []), append-nil lines) h;
+    }
+
 -- Acts after others that are played partly are partly played.
 pub partly_more : {W : Type 0} (i : Installation W) (xs ys : List Act) (old mid : Scene W) (new : W)
     (a b c : Option (List ℕ)) → IsPlayed i xs old mid a b → IsPartly i ys mid new b c
@@ -169,6 +220,7 @@ partly_more i xs ys old mid new a b c p q =
       written = rw (transcript_append i old.detail names p.entries q.entries)
           (front_after a b c (transcript i old.detail names p.entries) (transcript i old.detail names q.entries)
           p.written later);
+      almost = almost_more i old mid p.entries q.entries a b c p.users p.detail p.written q.almost;
     }
 
 -- what was refused memory is among more too
@@ -194,6 +246,7 @@ partly_rest i xs ys old new a b p = record {
   done = p.done;
   left = lacking_rest i p.rest ys p.last.world new p.left;
   written = p.written;
+  almost = p.almost;
 }
 
 -- nothing was done yet
@@ -208,22 +261,27 @@ partly_start i all old a = record {
   done = refl;
   left = inl refl;
   written = (0, omega arith, Appends-nil a);
+  almost = almost_none i old.detail (names_of (i.seen old.world)) a a (0, omega arith, Appends-nil a);
 }
 
 -- nothing was done, or the first act was refused memory
 pub partly_none : {W : Type 0} (i : Installation W) (act : Act) (what : EventValue) (old : Scene W) (new : W)
     (a b : Option (List ℕ)) → MayAsk act what → IsUnanswered i what old.world new a b
     → IsPartly i (act ∷ []) old new a b
-partly_none i act what old new a b asks h = record {
-  front = [];
-  rest = act ∷ [];
-  split = refl;
-  entries = [];
-  last = old;
-  done = refl;
-  left = elim h.left [ inl same ↦ inl same | inr lacks ↦ inr (what, asks, lacks) ];
-  written = (0, omega arith, subst (λ (c : Option (List ℕ)). Appends a c []) (sym h.same) (Appends-nil a));
-}
+partly_none i act what old new a b asks h =
+    let nothing : AppendsFront a b [] =
+    (0, omega arith, subst (λ (c : Option (List ℕ)). Appends a c []) (sym h.same) (Appends-nil a)) in
+    record {
+      front = [];
+      rest = act ∷ [];
+      split = refl;
+      entries = [];
+      last = old;
+      done = refl;
+      left = elim h.left [ inl same ↦ inl same | inr lacks ↦ inr (what, asks, lacks) ];
+      written = nothing;
+      almost = almost_none i old.detail (names_of (i.seen old.world)) a b nothing;
+    }
 
 -- one act was done, and a beginning of its lines was written
 pub partly_one : {W : Type 0} (i : Installation W) (act : Act) (entry : Entry W) (old new : Scene W)
@@ -239,6 +297,7 @@ partly_one i act entry old new a b h w = record {
   done = (new, h, refl);
   left = inl refl;
   written = rw (append-nil (ended (entry_lines i old.detail (names_of (i.seen old.world)) entry))) w;
+  almost = almost_one i old.detail (names_of (i.seen old.world)) entry a b w;
 }
 
 pub played_one : {W : Type 0} (i : Installation W) (act : Act) (entry : Entry W) (old new : Scene W)

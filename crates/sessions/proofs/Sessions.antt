@@ -10,8 +10,8 @@ use Rattle.cp_dispatch.specs.Policy.{Lines}
 use Rattle.session_script.specs.Script.{EventValue, script_of}
 use Rattle.sessions.specs.Files.{closing_lines}
 use Rattle.sessions.specs.Installed.{Installation, names_of}
-use Rattle.sessions.specs.Schedule.{Scene, acts, first_lines, scene}
-use Rattle.sessions.specs.Session.{IsCut, IsPartly, IsPlayed, IsRead, IsSession, at_first, closing}
+use Rattle.sessions.specs.Schedule.{Entry, Scene, acts, first_lines, scene}
+use Rattle.sessions.specs.Session.{AreWrittenAlmost, IsCut, IsPartly, IsPlayed, IsRead, IsSession, at_first, closing}
 use Rattle.sessions.specs.Transcript.{ended, transcript}
 use Rattle.sessions.specs.declared.schedule.Detail.{Detail}
 use Rattle.sessions.proofs.Histories.{front_after, history}
@@ -45,6 +45,21 @@ whole {W} i detail text script old first last r s a b c read accepted e played c
 front_more : (a b : Option (List ℕ)) (xs ys : List ℕ) → AppendsFront a b xs → AppendsFront a b (xs ++ ys)
 front_more a b xs ys h = (h.0, omega (arith, length-append xs ys, h.1), rw (take-append-le h.0 xs ys h.1) h.2)
 
+-- what was written almost, where a text should have followed
+almost_closed : {W : Type 0} (i : Installation W) (detail : Detail) (names : List (List ℕ)) (es : List (Entry W))
+    (more : List ℕ) (a b : Option (List ℕ)) → AreWrittenAlmost i detail names es [] a b
+    → AreWrittenAlmost i detail names es more a b
+almost_closed i detail names es more a b h = record {
+  earlier = h.earlier;
+  latest = h.latest;
+  between = h.between;
+  split = h.split;
+  few = h.few;
+  whole = h.whole;
+  front = front_more h.between b (transcript i detail names h.latest) more
+      (rw (append-nil (transcript i detail names h.latest)) at h.front);
+}
+
 -- A script that is cut short is a session up to there.
 pub cut : {W : Type 0} (i : Installation W) (detail : Detail) (text : List ℕ) (script : List EventValue) (old new : W)
     (first : Lines) (r s a b : Option (List ℕ)) → IsRead r s text → script_of (i.seen old).users text ≡ Ok script
@@ -67,6 +82,7 @@ cut {W} i detail text script old new first r s a b read accepted e partly =
       history = history i p.front (at_first i detail old) p.last p.entries p.done;
       written = front_more a b (transcript i detail (names_of (i.seen old)) p.entries) (closing i p.rest p.last.world)
           p.written;
+      almost = almost_closed i detail (names_of (i.seen old)) p.entries (closing i p.rest p.last.world) a b p.almost;
     }
 
 -- all was played, and a beginning of the files was written
@@ -92,4 +108,13 @@ cut_short {W} i detail text script old first last r s a b c read accepted e play
       history = history i (acts script) (at_first i detail old) last p.entries p.done;
       written = front_after a b c (transcript i detail (names_of (i.seen old)) p.entries)
           (ended (closing_lines (i.seen last.world))) p.written closed;
+      almost = record {
+        earlier = p.entries;
+        latest = [];
+        between = b;
+        split = sym (append-nil p.entries);
+        few = omega arith;
+        whole = p.written;
+        front = closed;
+      };
     }

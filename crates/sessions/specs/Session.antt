@@ -1,6 +1,6 @@
 -- What a session reads, does and writes.
-use Rattle.std.specs.Prelude.{◌≡◌, ℕ, Bool, true, false, List, [], ◌∷◌, ◌++◌, ◌⊎◌, Option}
-use Rattle.std.specs.Prelude.{Result, Ok, Err}
+use Rattle.std.specs.Prelude.{◌≡◌, ◌≤◌, ℕ, Bool, true, false, List, [], ◌∷◌, ◌++◌, ◌⊎◌, Option}
+use Rattle.std.specs.Prelude.{Result, Ok, Err, length}
 use Rattle.std.specs.Io.KnownBytes.{Appends, Consumes, IsAtEnd}
 use Rattle.s370_num.specs.Host.{AppendsFront, IsCounted}
 use Rattle.s370_num.specs.declared.host.HostFault.{HostFault}
@@ -55,6 +55,19 @@ pub record IsSession {W : Type 0} (i : Installation W) (detail : Detail) (old ne
   pub written : Appends writer_old writer_new
       (transcript i detail (names_of (i.seen old)) entries ++ ended (closing_lines (i.seen new)))
 
+-- all lines of what was done were written, but for an end of those of the last, and of this text
+-- after them
+pub record AreWrittenAlmost {W : Type 0} (i : Installation W) (detail : Detail)
+    (names : List (List ℕ)) (entries : List (Entry W)) (more : List ℕ)
+    (before after : Option (List ℕ)) : Type 0 where
+  pub earlier : List (Entry W)
+  pub latest : List (Entry W)
+  pub between : Option (List ℕ)
+  pub split : entries ≡ earlier ++ latest
+  pub few : length latest ≤ 1
+  pub whole : Appends before between (transcript i detail names earlier)
+  pub front : AppendsFront between after (transcript i detail names latest ++ more)
+
 -- the script was accepted, a beginning of it was done, and a beginning of that transcript was
 -- written; the installation is what that has left, unless the first of what was left to be done was
 -- refused memory
@@ -74,6 +87,8 @@ pub record IsCut {W : Type 0} (i : Installation W) (detail : Detail) (old new : 
   pub history : IsHistory i old (steps_of entries) last.world
   pub written : AppendsFront writer_old writer_new
       (transcript i detail (names_of (i.seen old)) entries ++ closing i rest last.world)
+  pub almost : AreWrittenAlmost i detail (names_of (i.seen old)) entries
+      (closing i rest last.world) writer_old writer_new
 
 -- the script was refused, first at this line
 pub record IsRefused (users : List KnownUser) (reader_old reader_new : Option (List ℕ))
@@ -105,6 +120,7 @@ pub record IsPartly {W : Type 0} (i : Installation W) (all : List Act) (old : Sc
   pub left : (new ≡ last.world) ⊎ IsLacking i rest last.world new
   pub written : AppendsFront before after
       (transcript i old.detail (names_of (i.seen old.world)) entries)
+  pub almost : AreWrittenAlmost i old.detail (names_of (i.seen old.world)) entries [] before after
 
 -- the event that was said happened, and its lines were written
 pub record IsAnswered {W : Type 0} (i : Installation W) (detail : Detail) (said : EventValue)

@@ -5,4 +5,3 @@ mod Restored
 mod Unstated
 mod Turned
 mod OneReply
-mod Programs

@@ -1,12 +1,13 @@
 -- What the words of the program name, as those of a simple command of `clap`.
-use Rattle.std.specs.Prelude.{◌≡◌, ◌≤◌, ◌&&◌, ℕ, Bool, true, false, List, [], map, codes, Option}
+use Rattle.std.specs.Prelude.{◌≡◌, ◌≤◌, ◌&&◌, ℕ, Bool, true, List, map, codes, Option}
 use Rattle.std.specs.Prelude.{Some, None, is_some}
-use Rattle.clap.specs.Words.{App, Row, Rule, all_of, fault_of, first_of, matches_of, new_app}
-use Rattle.clap.specs.Words.{new_rule, one_of, takes, with_rule}
+use Rattle.clap.specs.Words.{App, Row, Rule, all_of, first_of, new_app, new_rule, one_of}
+use Rattle.clap.specs.Words.{with_rule}
 use Rattle.clap.specs.declared.builder.action.ArgAction.TheVariants.{Set}
 use Rattle.text_words.specs.Numbers.{decimal_of}
 use Rattle.cp_core.specs.Sizes.{SystemSizes}
-use Rattle.programs.specs.Arguments.{IsFlag, save_rule, script_rule, texts_of, volume_rule}
+use Rattle.program_host.specs.Words.{IsFlag, texts_of}
+use Rattle.programs.specs.Arguments.{save_rule, script_rule, volume_rule}
 use Rattle.vm370.specs.declared.arguments.Options.{Options}
 
 -- `--frames N`
@@ -32,18 +33,6 @@ with_paths app = with_rule (with_rule (with_rule app directory_rule) script_rule
 -- `PROGRAM [--frames N] [--slots N] [--save] DIRECTORY SCRIPT [VOLUME]...`
 abbrev pub command_of : List ℕ → App
 command_of program = with_paths (with_options (new_app program))
-
--- what the words give for the arguments of this program, in their order
-unfoldable pub rows_named : List ℕ → List (List ℕ) → List Row
-rows_named program words = matches_of (command_of program) words
-
--- the words are those of the command
-unfoldable pub is_taken : List ℕ → List (List ℕ) → Bool
-is_taken program words = takes (command_of program) words
-
--- nothing is wrong with the words: none is unknown or missing, and none asks for help
-unfoldable pub HasNoFault : List ℕ → List (List ℕ) → Type 0
-HasNoFault program words = fault_of (command_of program) words ≡ []
 
 -- both paths are given
 abbrev pub gives_paths : List Row → Bool

@@ -3,15 +3,14 @@ ghost use Rattle.std.specs.Prelude.{◌≡◌, IfOk, IfErr, IfSome, OnOk, IsSome
 ghost use Rattle.std.specs.Prelude.{false, true};
 ghost use Rattle.clap.specs.Words.{app_of, first_of, found_of, rows_of, rule_of};
 ghost use Rattle.cp_core.specs.Sizes.{SystemSizes};
-ghost use Rattle.vm370.specs.Options.{HasNoFault, IsNamed, IsSized, command_of, directory_rule};
-ghost use Rattle.vm370.specs.Options.{frames_rule, gives_paths, is_taken, number_or, rows_named};
-ghost use Rattle.vm370.specs.Options.{slots_rule};
+ghost use Rattle.program_host.specs.Words.{HasNoFault, is_taken, rows_named};
+ghost use Rattle.vm370.specs.Options.{IsNamed, IsSized, command_of, directory_rule, frames_rule};
+ghost use Rattle.vm370.specs.Options.{gives_paths, number_or, slots_rule};
 
 use clap::{Arg, ArgAction, ArgMatches, Command};
 use cp_core::Sizes;
-use programs::words::{
-    UsageError, is_given, paths_of, refusal, save, script, text_of, usage, volumes,
-};
+use program_host::words::{UsageError, is_given, matched, paths_of, text_of, usage};
+use programs::words::{save, script, volumes};
 use std::alloc::{AllocError, Global};
 use std::convert::AsStr;
 use text_words::numbers::decimal_of;
@@ -20,6 +19,11 @@ use text_words::numbers::decimal_of;
 const FRAMES: u32 = 64;
 /// How many slots for pages it has where the words name no number.
 const SLOTS: u32 = 256;
+/// What is reported of frames or slots that are too many or no numbers.
+pub(crate) const WRONG_SIZES: &str =
+    "there are at most 4096 frames and 65536 slots, each a decimal number\n";
+/// What is reported where a path is missing.
+pub(crate) const NO_PATH: &str = "a path is missing\n";
 /// The most digits of a number of frames or slots.
 const MOST_DIGITS: usize = 7;
 
@@ -53,15 +57,15 @@ pub fn arguments<'a, S: AsStr>(
     program: &'a str,
     words: &'a [S],
 ) -> Result<Options<'a>, UsageError>
-    ensures ok { IfOk result (IsNamed (rows_named program.entry.now (map S.text words.entry.now))) }
-    ensures taken { OnOk result (HasNoFault program.entry.now (map S.text words.entry.now)) }
+    ensures ok { IfOk result (IsNamed (rows_named (command_of program.entry.now) (map S.text words.entry.now))) }
+    ensures taken { OnOk result (HasNoFault (command_of program.entry.now) (map S.text words.entry.now)) }
     ensures err { (sizes : SystemSizes)
-        → is_taken program.entry.now (map S.text words.entry.now) ≡ true →
-        gives_paths (rows_named program.entry.now (map S.text words.entry.now)) ≡ true →
-        IsSized (rows_named program.entry.now (map S.text words.entry.now)) sizes →
+        → is_taken (command_of program.entry.now) (map S.text words.entry.now) ≡ true →
+        gives_paths (rows_named (command_of program.entry.now) (map S.text words.entry.now)) ≡ true →
+        IsSized (rows_named (command_of program.entry.now) (map S.text words.entry.now)) sizes →
         IfErr result (λ error. error ≡ UsageError.Memory) }
 {
-    let matches = matched(alloc, program, words)?;
+    let matches = matched(alloc, command(alloc, program)?, words)?;
     options_of(alloc, &matches)
 }
 
@@ -78,10 +82,10 @@ pub fn options_of<'a>(alloc: Global, matches: &ArgMatches<'a>) -> Result<Options
         IfErr result (λ error. error ≡ UsageError.Memory) }
 {
     let Some(sizes) = sizes_in(matches) else {
-        return Err(wrong_sizes(alloc));
+        return Err(usage(String::from_str(alloc, WRONG_SIZES).ok()));
     };
     let Some((directory, script)) = paths_in(matches) else {
-        return Err(usage(alloc, "a path is missing\n"));
+        return Err(usage(String::from_str(alloc, NO_PATH).ok()));
     };
     let volumes = paths_of(alloc, matches, "VOLUME")?;
     Ok(Options {
@@ -91,14 +95,6 @@ pub fn options_of<'a>(alloc: Global, matches: &ArgMatches<'a>) -> Result<Options
         script,
         volumes,
     })
-}
-
-/// Returns the usage error for frames or slots that are too many or no numbers.
-pub(crate) fn wrong_sizes(alloc: Global) -> UsageError {
-    usage(
-        alloc,
-        "there are at most 4096 frames and 65536 slots, each a decimal number\n",
-    )
 }
 
 /// Returns how many frames and slots are asked for, or the usual numbers; None if too many or
@@ -136,25 +132,6 @@ fn paths_in<'a>(matches: &ArgMatches<'a>) -> Option<(&'a str, &'a str)>
     let directory = text_of(matches, "DIRECTORY")?;
     let script = text_of(matches, "SCRIPT")?;
     Some((directory, script))
-}
-
-/// Returns what `clap` finds in the words of a command line, or the usage error.
-fn matched<'a, S: AsStr>(
-    alloc: Global,
-    program: &'a str,
-    words: &'a [S],
-) -> Result<ArgMatches<'a>, UsageError>
-    ensures ok { IfOk result
-        (λ m. rows_of (found_of m) ≡ rows_named program.entry.now (map S.text words.entry.now)) }
-    ensures taken { OnOk result (HasNoFault program.entry.now (map S.text words.entry.now)) }
-    ensures err { is_taken program.entry.now (map S.text words.entry.now) ≡ true
-        → IfErr result (λ error. error ≡ UsageError.Memory) }
-{
-    let command = command(alloc, program)?;
-    match command.try_get_matches_from(words) {
-        Ok(matches) => Ok(matches),
-        Err(error) => Err(refusal(&error, error.to_string(alloc).ok())),
-    }
 }
 
 /// Returns the description of the program's command line for `clap`.

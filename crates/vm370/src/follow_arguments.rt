@@ -2,16 +2,15 @@
 ghost use Rattle.std.specs.Prelude.{◌≡◌, IfErr, IfOk, OnOk, map, true};
 ghost use Rattle.clap.specs.Words.{app_of, found_of, rows_of};
 ghost use Rattle.cp_core.specs.Sizes.{SystemSizes};
+ghost use Rattle.program_host.specs.Words.{HasNoFault, is_taken, rows_named};
 ghost use Rattle.vm370.specs.Options.{IsSized};
-ghost use Rattle.vm370.specs.FollowOptions.{HasNoFault, IsNamed, command_of, gives_directory};
-ghost use Rattle.vm370.specs.FollowOptions.{is_taken, rows_named};
+ghost use Rattle.vm370.specs.FollowOptions.{IsNamed, command_of, gives_directory};
 
-use crate::arguments::{directory, frames, sizes_in, slots, wrong_sizes};
+use crate::arguments::{NO_PATH, WRONG_SIZES, directory, frames, sizes_in, slots};
 use clap::{ArgMatches, Command};
 use cp_core::Sizes;
-use programs::words::{
-    UsageError, follow, is_given, paths_of, refusal, save, terminals, text_of, usage, volumes,
-};
+use program_host::words::{UsageError, is_given, matched, paths_of, text_of, usage};
+use programs::words::{follow, save, terminals, volumes};
 use std::alloc::{AllocError, Global};
 use std::convert::AsStr;
 
@@ -42,48 +41,42 @@ pub fn follow_arguments<'a, S: AsStr>(
     program: &'a str,
     words: &'a [S],
 ) -> Result<SystemFollowOptions<'a>, UsageError>
-    ensures ok { IfOk result (IsNamed (rows_named program.entry.now (map S.text words.entry.now))) }
-    ensures taken { OnOk result (HasNoFault program.entry.now (map S.text words.entry.now)) }
+    ensures ok { IfOk result (IsNamed (rows_named (command_of program.entry.now) (map S.text words.entry.now))) }
+    ensures taken { OnOk result (HasNoFault (command_of program.entry.now) (map S.text words.entry.now)) }
     ensures err { (sizes : SystemSizes)
-        → is_taken program.entry.now (map S.text words.entry.now) ≡ true →
-        gives_directory (rows_named program.entry.now (map S.text words.entry.now)) ≡ true →
-        IsSized (rows_named program.entry.now (map S.text words.entry.now)) sizes →
+        → is_taken (command_of program.entry.now) (map S.text words.entry.now) ≡ true →
+        gives_directory (rows_named (command_of program.entry.now) (map S.text words.entry.now)) ≡ true →
+        IsSized (rows_named (command_of program.entry.now) (map S.text words.entry.now)) sizes →
         IfErr result (λ error. error ≡ UsageError.Memory) }
 {
-    let matches = matched(alloc, program, words)?;
-    let Some(sizes) = sizes_in(&matches) else {
-        return Err(wrong_sizes(alloc));
+    let matches = matched(alloc, command(alloc, program)?, words)?;
+    options_in(alloc, &matches)
+}
+
+/// Returns the options that `clap` has found in words.
+fn options_in<'a>(
+    alloc: Global,
+    matches: &ArgMatches<'a>,
+) -> Result<SystemFollowOptions<'a>, UsageError>
+    ensures ok { IfOk result (IsNamed (rows_of (found_of matches.now))) }
+    ensures err { (sizes : SystemSizes) → gives_directory (rows_of (found_of matches.now)) ≡ true →
+        IsSized (rows_of (found_of matches.now)) sizes →
+        IfErr result (λ error. error ≡ UsageError.Memory) }
+{
+    let Some(sizes) = sizes_in(matches) else {
+        return Err(usage(String::from_str(alloc, WRONG_SIZES).ok()));
     };
-    let Some(directory) = text_of(&matches, "DIRECTORY") else {
-        return Err(usage(alloc, "a path is missing\n"));
+    let Some(directory) = text_of(matches, "DIRECTORY") else {
+        return Err(usage(String::from_str(alloc, NO_PATH).ok()));
     };
-    let volumes = paths_of(alloc, &matches, "VOLUME")?;
+    let volumes = paths_of(alloc, matches, "VOLUME")?;
     Ok(SystemFollowOptions {
         sizes,
-        save: is_given(&matches, "save"),
-        terminals: is_given(&matches, "terminals"),
+        save: is_given(matches, "save"),
+        terminals: is_given(matches, "terminals"),
         directory,
         volumes,
     })
-}
-
-/// Returns what `clap` finds in the words of a command line, or the usage error.
-fn matched<'a, S: AsStr>(
-    alloc: Global,
-    program: &'a str,
-    words: &'a [S],
-) -> Result<ArgMatches<'a>, UsageError>
-    ensures ok { IfOk result
-        (λ m. rows_of (found_of m) ≡ rows_named program.entry.now (map S.text words.entry.now)) }
-    ensures taken { OnOk result (HasNoFault program.entry.now (map S.text words.entry.now)) }
-    ensures err { is_taken program.entry.now (map S.text words.entry.now) ≡ true
-        → IfErr result (λ error. error ≡ UsageError.Memory) }
-{
-    let command = command(alloc, program)?;
-    match command.try_get_matches_from(words) {
-        Ok(matches) => Ok(matches),
-        Err(error) => Err(refusal(&error, error.to_string(alloc).ok())),
-    }
 }
 
 /// Returns the description of the program's command line with `--follow` for `clap`.

@@ -1,12 +1,11 @@
 //! What the program does with its files: it reads a directory and images, boots the system that
 //! they state, plays or follows a script, and saves the images.
-ghost use Rattle.std.specs.Prelude.{◌≡◌, ℕ, List, [], ◌∷◌, IfErr, IfOk, OnErr, OnOk, map};
+ghost use Rattle.std.specs.Prelude.{◌≡◌, [], ◌∷◌, IfErr, IfOk, OnOk, map};
 ghost use Rattle.cp_core.specs.Boot.{IsBooted};
-ghost use Rattle.programs.specs.Opened.{Adds, AddsFront, Opens};
-ghost use Rattle.vm370.specs.Runs.{IsDirectoryAt, IsFailedWholeFollowing, IsFailedWholeRun};
-ghost use Rattle.vm370.specs.Runs.{IsNoSystem, IsNotBooted, IsSystemOf, IsUnstated};
-ghost use Rattle.vm370.specs.Runs.{IsWholeFollowing, IsWholeRun, detail_of, inputs};
-ghost use Rattle.vm370.specs.Runs.{system_volumes};
+ghost use Rattle.program_host.specs.Deeds.{Adds, Opens};
+ghost use Rattle.vm370.specs.Runs.{IsDirectoryAt, IsFailedSystemFollowing, IsFailedSystemRun};
+ghost use Rattle.vm370.specs.Runs.{IsNoSystem, IsNotBooted, IsSystemFollowing, IsSystemOf};
+ghost use Rattle.vm370.specs.Runs.{IsSystemRun, IsUnstated, system_volumes};
 
 use crate::arguments::Options;
 use crate::boot_faults::{boot_failure, names_of};
@@ -15,11 +14,11 @@ use crate::installation::SharedMachines;
 use ckd_volume::Volume;
 use cp_core::{Sizes, System};
 use cp_directory::{Directory, read_directory};
+use program_host::ProgramHost;
 use programs::{
-    Failure, FileStore, HasVolumes, follow_files, read_images, run_script, saved_paths,
+    Failure, HasVolumes, detail_of, follow_files, read_images, run_script, saved_paths,
 };
 use s370_num::host::{HostReader, HostWriter, read_all};
-use sessions::Detail;
 use std::alloc::Global;
 
 impl HasVolumes for SharedMachines {
@@ -37,25 +36,25 @@ impl HasVolumes for SharedMachines {
 /// # Errors
 ///
 /// A `Failure`: of a file, a text, an image or the boot, or refused memory.
-pub fn run_files<F: FileStore, W: HostWriter>(
+pub fn run_files<H: ProgramHost, W: HostWriter>(
     alloc: Global,
-    files: &mut F,
+    host: &mut H,
     options: &Options<'_>,
     writer: &mut W,
 ) -> Result<(), Failure>
     ensures ok { OnOk result
-        (IsWholeRun F.gives F.File.remaining options.now (F.deeds files.old) (F.deeds files.new)
+        (IsSystemRun H.gives H.File.remaining options.now (H.deeds host.old) (H.deeds host.new)
         (W.contents writer.old) (W.contents writer.new)) }
     ensures flushed { OnOk result (W.held writer.new ≡ []) }
     ensures err { IfErr result
-        (IsFailedWholeRun F.gives F.File.remaining F.File.HostFile.failures options.now
-        (F.deeds files.old) (F.deeds files.new) (W.contents writer.old) (W.contents writer.new)
+        (IsFailedSystemRun H.gives H.File.remaining H.File.HostFile.failures options.now
+        (H.deeds host.old) (H.deeds host.new) (W.contents writer.old) (W.contents writer.new)
         (W.HostFile.failures writer.old) (W.HostFile.failures writer.new)) }
 {
     let volumes = options.volumes.as_slice();
     let saved = saved_paths(options.save, volumes);
-    let mut machines = read_system(alloc, files, options.directory, volumes, options.sizes)?;
-    run_script(alloc, files, &mut machines, options.script, saved, writer)
+    let mut machines = read_system(alloc, host, options.directory, volumes, options.sizes)?;
+    run_script(alloc, host, &mut machines, options.script, saved, writer)
 }
 
 /// Boots the system that these options name, follows the parts of a script that an input has and
@@ -66,22 +65,21 @@ pub fn run_files<F: FileStore, W: HostWriter>(
 /// # Errors
 ///
 /// A `Failure`: of a file, a text, an image or the boot, or refused memory.
-pub fn follow_system<F: FileStore, R: HostReader, W: HostWriter>(
+pub fn follow_system<H: ProgramHost, R: HostReader, W: HostWriter>(
     alloc: Global,
-    files: &mut F,
+    host: &mut H,
     options: &SystemFollowOptions<'_>,
     reader: &mut R,
     writer: &mut W,
 ) -> Result<(), Failure>
     ensures ok { OnOk result
-        (IsWholeFollowing F.gives F.File.remaining options.now (F.deeds files.old)
-        (F.deeds files.new)
-        (R.remaining reader.old) (R.remaining reader.new) (W.contents writer.old)
-        (W.contents writer.new)) }
+        (IsSystemFollowing H.gives H.File.remaining options.now (H.deeds host.old)
+        (H.deeds host.new) (R.remaining reader.old) (R.remaining reader.new)
+        (W.contents writer.old) (W.contents writer.new)) }
     ensures flushed { OnOk result (W.held writer.new ≡ []) }
     ensures err { IfErr result
-        (IsFailedWholeFollowing F.gives F.File.remaining F.File.HostFile.failures options.now
-        (F.deeds files.old) (F.deeds files.new) (R.remaining reader.old) (R.remaining reader.new)
+        (IsFailedSystemFollowing H.gives H.File.remaining H.File.HostFile.failures options.now
+        (H.deeds host.old) (H.deeds host.new) (R.remaining reader.old) (R.remaining reader.new)
         (W.contents writer.old) (W.contents writer.new)
         (record {
           reader_old = R.HostFile.failures reader.old;
@@ -92,10 +90,10 @@ pub fn follow_system<F: FileStore, R: HostReader, W: HostWriter>(
 {
     let volumes = options.volumes.as_slice();
     let saved = saved_paths(options.save, volumes);
-    let machines = read_system(alloc, files, options.directory, volumes, options.sizes)?;
+    let machines = read_system(alloc, host, options.directory, volumes, options.sizes)?;
     follow_files(
         alloc,
-        files,
+        host,
         machines,
         detail_of(options.terminals),
         saved,
@@ -110,37 +108,35 @@ pub fn follow_system<F: FileStore, R: HostReader, W: HostWriter>(
 /// # Errors
 ///
 /// A `Failure`: of a file, a text, an image or the boot, or refused memory.
-pub fn read_system<F: FileStore>(
+pub fn read_system<H: ProgramHost>(
     alloc: Global,
-    files: &mut F,
+    host: &mut H,
     directory: &str,
     volumes: &[&str],
     sizes: Sizes,
 ) -> Result<SharedMachines, Failure>
     ensures ok { IfOk result
-        (IsSystemOf F.gives F.File.remaining directory.now (map (λ path. path.now) volumes.now)
-        sizes) }
-    ensures deeds { OnOk result (Adds (F.deeds files.old) (F.deeds files.new)
-        (inputs directory.now (map (λ path. path.now) volumes.now))) }
-    ensures err { OnErr result (AddsFront (F.deeds files.old) (F.deeds files.new)
-        (inputs directory.now (map (λ path. path.now) volumes.now))) }
-    ensures why { IfErr result
-        (IsNoSystem F.gives F.File.remaining F.File.HostFile.failures directory.now
-        (map (λ path. path.now) volumes.now) sizes) }
+        (IsSystemOf H.gives H.File.remaining directory.now (map (λ path. path.now) volumes.now)
+        sizes (H.deeds host.old) (H.deeds host.new)) }
+    ensures err { IfErr result
+        (IsNoSystem H.gives H.File.remaining H.File.HostFile.failures directory.now
+        (map (λ path. path.now) volumes.now) sizes (H.deeds host.old) (H.deeds host.new)) }
 {
-    let directory = read_users(alloc, files, directory)?;
-    let volumes = read_images(alloc, files, volumes)?;
+    let directory = read_users(alloc, host, directory)?;
+    let volumes = read_images(alloc, host, volumes)?;
     boot(alloc, directory, volumes, sizes)
 }
 
 /// Reads the directory at a path.
-fn read_users<F: FileStore>(alloc: Global, files: &mut F, path: &str) -> Result<Directory, Failure>
-    ensures ok { IfOk result (IsDirectoryAt F.gives F.File.remaining path.now) }
-    ensures deeds { Adds (F.deeds files.old) (F.deeds files.new) (Opens path.now ∷ []) }
+fn read_users<H: ProgramHost>(alloc: Global, host: &mut H, path: &str) -> Result<Directory, Failure>
+    ensures ok { IfOk result (IsDirectoryAt H.gives H.File.remaining path.now) }
+    ensures deeds { OnOk result
+        (Adds (H.deeds host.old) (H.deeds host.new) (Opens path.now ∷ [])) }
     ensures err { IfErr result
-        (IsUnstated F.gives F.File.remaining F.File.HostFile.failures path.now) }
+        (IsUnstated H.gives H.File.remaining H.File.HostFile.failures path.now
+        (H.deeds host.old) (H.deeds host.new)) }
 {
-    let mut file = files.open(path)?;
+    let mut file = host.open(path)?;
     let text = read_all(alloc, &mut file)?;
     let directory = read_directory(alloc, &text)?;
     Ok(directory)
@@ -160,16 +156,5 @@ fn boot(
     match System::boot(alloc, directory, volumes, sizes) {
         Ok(system) => Ok(SharedMachines::new(system)),
         Err(error) => Err(boot_failure(alloc, names, error)),
-    }
-}
-
-/// Returns the detail of a transcript: that of terminals if `terminals` is true, else the whole.
-fn detail_of(terminals: bool) -> Detail
-    ensures { result ≡ detail_of terminals }
-{
-    if terminals {
-        Detail::Terminals
-    } else {
-        Detail::Whole
     }
 }

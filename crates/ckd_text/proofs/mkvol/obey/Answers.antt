@@ -5,16 +5,16 @@ use Rattle.ckd_text.proofs.mkvol.obey.Goals as goal
 
 pub returns-in-Err-clause-err : goal.returns-in-Err-clause-err
 returns-in-Err-clause-err g c =
-    inl (unbegun c.args.host.now c.in-Err.error c.wrong_use.result c.wrong_use.ensures
-    (λ other taken out text. other (IfErr-at_err _ c.in-Err.is (c.volume_paths.ensures.err taken out text))))
+    let deeds = g.H.ProgramHost.deeds in
+    inl (unbegun (deeds c.args.host.now) (deeds c.wrong_use.new.host) c.in-Err.error _ c.wrong_use.result
+    c.wrong_use.ensures.failure
+    (λ other taken out text. other (IfErr-at_err _ c.in-Err.is (c.volume_paths.ensures.err taken out text)))
+    c.wrong_use.ensures.told)
 
 pub returns-clause-ok : goal.returns-clause-ok
 returns-clause-ok g c =
-    on_ok_weaker c.make_image.result
-    (λ made. (c.in-Ok.paths, IfOk-at_ok _ c.in-Ok.is c.volume_paths.ensures.ok, made)) c.make_image.ensures.ok
+    on_ok_weaker c.make_image.result (λ done. (c.in-Ok.paths, IfOk-at_ok _ c.in-Ok.is c.volume_paths.ensures.ok, done)) c.make_image.ensures.ok
 
 pub returns-clause-err : goal.returns-clause-err
 returns-clause-err g c =
-    IfErr-weaker c.make_image.result _ _
-    (λ failure failed. inr (c.in-Ok.paths, IfOk-at_ok _ c.in-Ok.is c.volume_paths.ensures.ok, failed))
-    c.make_image.ensures.err
+    IfErr-weaker c.make_image.result _ _ (λ failure failed. inr (c.in-Ok.paths, IfOk-at_ok _ c.in-Ok.is c.volume_paths.ensures.ok, failed)) c.make_image.ensures.err

@@ -6,7 +6,7 @@ use Rattle.vm370.specs.BootFaults.{refusal_text}
 use Rattle.cp_core.specs.declared.events.BootError.TheVariants as errors
 use Rattle.cp_core.proofs.Unbooted.{cause_of}
 use Rattle.programs.specs.declared.faults.Failure.TheVariants as failures
-use Rattle.programs.proofs.Deeds.{if_err}
+use Rattle.program_host.proofs.Deeds.{if_err}
 use Rattle.vm370.specs.Runs.{IsNotBooted}
 use Rattle.vm370.proofs.runs.boot.Goals as goal
 

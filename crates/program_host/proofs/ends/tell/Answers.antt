@@ -1,0 +1,39 @@
+use Rattle.std.proofs.Common.{◌≡◌, ◌∙◌, ℕ, List, [], ◌∷◌, ◌++◌, Option, codes, inl, inr, refl, subst, sym}
+use Rattle.program_host.specs.Deeds.{Adds, Complains, Deed}
+use Rattle.program_host.specs.Ends.{path_complaints}
+use Rattle.program_host.proofs.Deeds.{adds_more}
+use Rattle.program_host.proofs.ends.tell.Goals as goal
+
+-- a line that was printed, and then a path, if there is one
+told : (old mid new : Option (List Deed)) (line text : List ℕ) (at path : Option (List ℕ))
+    → Adds old mid (Complains (line ++ 10 ∷ []) ∷ []) → Adds mid new (path_complaints at) → line ≡ text → at ≡ path
+    → Adds old new (Complains (text ++ 10 ∷ []) ∷ path_complaints path)
+told old mid new line text at path one more e f =
+    adds_more old mid new (Complains (text ++ 10 ∷ []) ∷ []) (path_complaints path)
+    (subst (λ (line : List ℕ). Adds old mid (Complains (line ++ 10 ∷ []) ∷ [])) e one)
+    (subst (λ (p : Option (List ℕ)). Adds mid new (path_complaints p)) f more)
+
+pub returns-in-Ok : goal.returns-in-Ok
+returns-in-Ok g c =
+    let deeds = g.H.ProgramHost.deeds in
+    inr (
+      c.is_wrong_words.ensures.no c.if-is_wrong_words.false,
+      inl refl,
+      told (deeds c.args.host.now) (deeds c.complain_line.new.self) (deeds c.tell_path.new.host) c.deref.result.now
+          (g.F.ProgramFailure.text c.args.failure) _ (g.F.ProgramFailure.unsaved c.args.failure)
+          c.complain_line.ensures c.tell_path.ensures (c.deref.ensures ∙ c.in-Ok.ensures)
+          c.unsaved_path.ensures,
+    )
+
+pub returns-in-Err : goal.returns-in-Err
+returns-in-Err g c =
+    let deeds = g.H.ProgramHost.deeds in
+    inr (
+      c.is_wrong_words.ensures.no c.if-is_wrong_words.false,
+      inr c.no_memory.ensures,
+      told (deeds c.args.host.now) (deeds c.complain_line-in-Err.new.self) (deeds c.tell_path-in-Err.new.host)
+          (codes "fault: memory Memory") (g.F.ProgramFailure.text c.no_memory.result) _
+          (g.F.ProgramFailure.unsaved c.args.failure) c.complain_line-in-Err.ensures c.tell_path-in-Err.ensures
+          (sym (g.F.ProgramFailure.memory_told c.no_memory.result c.no_memory.ensures))
+          c.unsaved_path-in-Err.ensures,
+    )
