@@ -5,6 +5,8 @@ from __future__ import annotations
 
 from collections.abc import Iterator
 import os
+import re
+import shutil
 import subprocess
 
 TOP = os.path.dirname(os.path.dirname(os.path.realpath(__file__)))
@@ -13,7 +15,7 @@ FILE_FAILED = 3
 NOT_COPIED = 76
 FULL = "No space left on device"
 # what a host says of a file when none may grow, and what a program says
-TOO_LARGE = ("File too large", "fault: file", "no room for a copy")
+TOO_LARGE = ("File too large", "fault: file", "No usable temporary directory")
 # a source that cannot be read, and a reader who has gone
 REFUSED_SOURCE, SIGPIPE = 74, -13
 TEXTS = {
@@ -63,10 +65,10 @@ WRITING = (
     "vm370 --save-state >out .d .s .i",
     "passwords >out ALICE",
     "report .recording >out",
-    "installation --listen socket --printouts >prints --record >out .d .i",
+    "installation --listen ./socket --record >out .d .i",
 )
-# those that run until they are ended: what they say first
-SERVING = {"replay --port 0 .d .s .i": "http://127.0.0.1"}
+# those that run until they are ended
+SERVING = ("replay .d .s .i", "replay .recording")
 # those that another test tries with files that fail: over stand-ins, or over servers
 ELSEWHERE = {
     "build": "test-commands",
@@ -114,7 +116,7 @@ class Place:
         self.run("mkvol >i .text")
         self.run("vol2img >h .i")
         # bin/report and bin/replay read what an installation has recorded
-        self.run("installation --listen socket --record >recording .d .i")
+        self.run("installation --listen ./socket --record >recording .d .i")
 
     def words(self, line: str, replaced: str = "", by: str = "") -> list[str]:
         """The words of a line, with another file in place of one."""
@@ -137,6 +139,20 @@ class Place:
             timeout=SECONDS,
         )
         return done.returncode, done.stderr.decode(errors="replace")
+
+    def forget(self, name: str) -> None:
+        """Removes a file or a folder."""
+        path = f"{self.folder}/{name}"
+        if os.path.isdir(path):
+            shutil.rmtree(path)
+        elif os.path.exists(path):
+            os.remove(path)
+
+    def has(self, name: str) -> bool:
+        """Whether a file of this name, or one in a folder of this name, has a byte."""
+        path = f"{self.folder}/{name}"
+        inner = [f"{top}/{item}" for top, _, items in os.walk(path) for item in items]
+        return any(os.path.isfile(item) and os.path.getsize(item) for item in [path, *inner])
 
 
 def wrong(done: tuple[int, str], statuses: tuple[int, ...], *texts: str) -> str:
@@ -170,7 +186,8 @@ def folders(place: Place) -> Iterator[tuple[str, str]]:
     """Each file of each command replaced by a folder."""
     for line in (*PRINTING, *WRITING, *SERVING):
         for word in line.split(" "):
-            if word.startswith((".", ">")) and word not in (">prints", ">folder"):
+            # printouts are written into a folder
+            if re.match("[.>][a-z]", word) and not line.startswith(f"printouts {word}"):
                 done = place.run(line, word, "folder")
                 statuses = (FILE_FAILED, REFUSED_SOURCE)
                 yield f"{line}: a folder for {word}", wrong(done, statuses, "folder", "directory")
@@ -190,10 +207,10 @@ def outputs(place: Place) -> Iterator[tuple[str, str]]:
             done = place.run(line, ">out", "/dev/full")
             yield f"{line}: a full disk for >out", wrong(done, (1, 2, FILE_FAILED))
         # where no file may grow, none is left that looks whole
+        place.forget("new")
         done = place.run(line, ">out", "new", before=NO_ROOM)
         yield f"{line}: no room for files", wrong(done, (1, FILE_FAILED), *TOO_LARGE)
-        is_left = os.path.isfile(f"{place.folder}/new") and os.path.getsize(f"{place.folder}/new")
-        yield f"{line}: nothing is left", "a file is left" if is_left else ""
+        yield f"{line}: nothing is left", "a file is left" if place.has("new") else ""
     for line in PRINTING:
         done = place.run(line, before=NO_ROOM)
         yield f"{line}: no room for copies", wrong(done, (0, FILE_FAILED, NOT_COPIED))

@@ -17,6 +17,8 @@ import sys
 import tempfile
 import time
 
+from gathjumli.cli import FILE_FAILED, give_up_output, output_failure
+
 # Guest loops that never end, at 200. Register 1 counts down from zero.
 LOOPS = {
     "bct": ["STORE 200 4610020082000208"],
@@ -407,7 +409,7 @@ def measure_spool(bench: Any, cards: Any, files: Any) -> None:
         measure_files(bench, others)
 
 
-def main() -> None:
+def main() -> int:
     program, what, *words = sys.argv[1:]
     measures = {
         "loops": measure_loops,
@@ -416,8 +418,16 @@ def main() -> None:
         "installation": measure_installation,
         "spool": measure_spool,
     }
-    measures[what](Bench(program), *words)
+    try:
+        measures[what](Bench(program), *words)
+        sys.stdout.flush()
+    except BrokenPipeError:
+        return FILE_FAILED
+    except OSError as item:
+        print(f"bench: {output_failure(item)}", file=sys.stderr)
+        return FILE_FAILED
+    return 0
 
 
 if __name__ == "__main__":
-    main()
+    sys.exit(give_up_output(main()))
