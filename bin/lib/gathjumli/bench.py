@@ -17,8 +17,6 @@ import sys
 import tempfile
 import time
 
-from gathjumli.cli import FILE_FAILED, give_up_output, output_failure
-
 # Guest loops that never end, at 200. Register 1 counts down from zero.
 LOOPS = {
     "bct": ["STORE 200 4610020082000208"],
@@ -409,7 +407,7 @@ def measure_spool(bench: Any, cards: Any, files: Any) -> None:
         measure_files(bench, others)
 
 
-def main() -> int:
+def main() -> None:
     program, what, *words = sys.argv[1:]
     measures = {
         "loops": measure_loops,
@@ -418,16 +416,8 @@ def main() -> int:
         "installation": measure_installation,
         "spool": measure_spool,
     }
-    try:
-        measures[what](Bench(program), *words)
-        sys.stdout.flush()
-    except BrokenPipeError:
-        return FILE_FAILED
-    except OSError as item:
-        print(f"bench: {output_failure(item)}", file=sys.stderr)
-        return FILE_FAILED
-    return 0
+    measures[what](Bench(program), *words)
 
 
 if __name__ == "__main__":
-    sys.exit(give_up_output(main()))
+    main()
