@@ -545,17 +545,26 @@ RUN BARE 1000000
 """
 
 
-def test_long_trace(repository: str, work: str) -> None:
-    """A trace is made in pieces: it stops soon, and no unit is lost or shown twice where a piece ends."""
+def try_long_trace(repository: str, work: str) -> float:
+    """A trace stops where it is to, however many units it might show; how much processor time it took, in seconds."""
     write(f"{work}/script", LOOPED)
-    words = ["--bare", "64K", f"{work}/script"]
-    done = Done(repository, "trace370", "--stop-on", "G1", "--units", "100000", *words)
+    before = os.times()
+    words = ["--stop-on", "G1", "--units", "100000", "--bare", "64K", f"{work}/script"]
+    done = Done(repository, "trace370", *words)
+    after = os.times()
     lines = done.out.splitlines()
     check(
         "a long trace stops soon",
         done.status == 0 and lines[-1] == "STOP on a change of G1" and "UNIT 2 " in lines[-2],
         *done.findings(),
     )
+    return sum(after[2:4]) - sum(before[2:4])
+
+
+def test_long_trace(repository: str, work: str) -> None:
+    """A trace is made in pieces: it stops soon, and no unit is lost or shown twice where a piece ends."""
+    try_long_trace(repository, work)
+    words = ["--bare", "64K", f"{work}/script"]
     done = Done(repository, "trace370", "--units", "90", *words)
     units = [int(number) for number in re.findall("^UNIT ([0-9]+) ", done.out, re.M)]
     check("each unit is shown once", units == list(range(1, 91)), *done.findings())
@@ -991,12 +1000,24 @@ BLANK TRACKS 36
 """
 
 
+def try_tracks(drawn: bytes, titles: list[str]) -> None:
+    """Each track of the picture is named once, and its colors have a legend."""
+    named = []
+    for title in titles:
+        first, last, head = re.match(r"cylinders? (\d+)(?: to (\d+))? head (\d+): ", title).groups()
+        named += [(cylinder, int(head)) for cylinder in range(int(first), int(last or first) + 1)]
+    tracks = [(cylinder, head) for cylinder in range(2) for head in range(19)]
+    check("each track is named once", sorted(named) == tracks, *titles)
+    check("shades have a legend", b">blank</text>" in drawn and b">100% full</text>" in drawn)
+
+
 def test_pictures(repository: str, work: str) -> None:
     cases = {
         "framepicture": (FRAMES, 16 + 8 + 2, "frame 1: ALPHA 01C000", "    0 AAB.............\n"),
         "trackpicture": (
             TRACKS,
-            2 * 19,
+            # two tracks with records, a blank one next to each, and 17 rows of two blank ones
+            2 + 2 + 17,
             "cylinder 0 head 0: 2 records, 331 of 13165 bytes",
             "18 | @|\n",
         ),
@@ -1008,6 +1029,8 @@ def test_pictures(repository: str, work: str) -> None:
             for item in xml.dom.minidom.parseString(done.raw).getElementsByTagName("title")
         ]
         check(f"{command} draws", len(titles) == squares and title in titles, *titles)
+        if command == "trackpicture":
+            try_tracks(done.raw, titles)
         done = Done(repository, command, "--text", "-", given=text.encode())
         check(f"{command} as text", done.status == 0 and row in done.out, *done.findings())
         done = Done(repository, command, given=b"no map\n")
@@ -1403,6 +1426,9 @@ def try_over_programs(repository: str, folder: str) -> None:
         return Done(repository, name, *words, **given)
 
     scripts_for_people.try_loads(check, folder, run)
+    seconds = try_long_trace(repository, folder)
+    # processor time does not hang on what else the host does
+    check("and within two seconds", seconds < 2, f"{seconds:.1f} seconds")
 
 
 def try_states(repository: str, folder: str) -> None:

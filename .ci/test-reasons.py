@@ -23,7 +23,9 @@ from gathjumli.reasons import reason
 
 TABLE = f"{TOP}/.ci/reasons.txt"
 # how many runs the table has at least, how many of them name file, line and column, and how many texts the others refuse
-FEWEST, FEWEST_PLACED, FEWEST_REFUSED = 90, 70, 220
+FEWEST, FEWEST_PLACED, FEWEST_REFUSED = 100, 80, 225
+# and how many runs there are with files that fail
+FEWEST_FAILING = 250
 # a reason after file, line and column
 PLACED = re.compile("[a-z]+:[0-9]+:[0-9]+: ")
 STAND_IN = '#!/bin/sh\nprintf "%s\\n" "$FAULT" >&2\nexit 1\n'
@@ -165,6 +167,8 @@ def main(argument: object) -> int:
         failed.append(
             f"there are {len(runs)} runs, {placed} with a place, and {len(refused)} refused texts"
         )
+    if argument and len(cases) < FEWEST_FAILING:
+        failed.append(f"there are {len(cases)} runs with files that fail")
     for entry in failed:
         print(f"FAILED: {entry}")
     print(f"{len(runs) + len(refused) + len(cases) - len(failed)} passed, {len(failed)} failed")

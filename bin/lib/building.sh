@@ -429,11 +429,17 @@ compile() {
     exec 5> "$held"
     kill "$reporting" 2> /dev/null || true
     made=$(find "$room" -type f -name program -perm -100)
-    [ -z "$made" ] || cp -- "$made" "$room/copied"
+    copying=0
+    [ -z "$made" ] || cp -- "$made" "$room/copied" || copying=$?
     kill "$trying" 2> /dev/null || true
     wait "$trying" || true
     exec 5>&-
     trap - HUP INT TERM
+    # where nothing can be written the log has no reason
+    [ "$copying" -eq 0 ] && (echo > "$room/tried") 2> /dev/null || {
+        rm -rf -- "$room"
+        fail "$not_writable" "the program is not built, and $compiled cannot be written"
+    }
     [ -x "$room/copied" ] || {
         cat -- "$room/log" >&2
         fail "$not_built" "$program_crate was refused, and is not compiled; the log is $room/log"

@@ -106,15 +106,14 @@ installed_names() {
         "s,${before}docs/,\\1$below/share/doc/gathjumli/docs/,g" "s,${before}bin/lib/,\\1$below/lib/gathjumli/bin/lib/,g"
 }
 
-# the version, and of a command that runs a part of the program ($runs) what the program is
+# the version, and of a command that runs a part of the program ($runs) what the program is; cat says why a file fails
 version() {
-    printing print_version
+    described=$([ -z "${runs-}" ] || describe_program) || exit $?
+    printing cat <<END
+$name (Gathjumli) $(cat -- "$root/VERSION")${described:+
+$described}
+END
     exit 0
-}
-
-print_version() {
-    echo "$name (Gathjumli) $(cat -- "$root/VERSION")"
-    [ -z "${runs-}" ] || describe_program
 }
 
 # refuses the words of the command: what is wrong, and the first lines of the usage text
@@ -174,6 +173,14 @@ read_arguments() {
 no_such_option() {
     meant=$(awk -v "wrong=${1#--}" -v "known=$known" -f "$root/bin/lib/nearest.awk") || meant=
     usage_error "no such option: $1${meant:+; did you mean $meant?}"
+}
+
+# nearest_word WORD LIST..: prints which word of the lists was perhaps meant
+nearest_word() {
+    wrong=$1
+    shift
+    meant=$(awk -v "wrong=$wrong" -v "known=$(printf '%s\n' "$@" | paste -sd ' ' -)" -v words=1 -f "$root/bin/lib/nearest.awk") || meant=
+    printf '%s' "${meant:+; did you mean $meant?}"
 }
 
 # set_option NAME VALUE: of an option that is known; --save-state is option_save_state

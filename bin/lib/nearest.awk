@@ -1,5 +1,5 @@
-# The option that a wrong one was perhaps meant to be: awk -v wrong=NAME -v known="NAME NAME:.." -f nearest.awk. It differs in few letters,
-# or goes on where the wrong one ends.
+# The option that a wrong one was perhaps meant to be: awk -v wrong=NAME -v known="NAME NAME:.." -f nearest.awk; with -v words=1 the
+# word. It differs in few letters, or goes on where the wrong one ends.
 
 function least(a, b) { return a < b ? a : b }
 
@@ -20,12 +20,12 @@ function distance(left, right,   i, j, row, before, kept) {
 
 BEGIN {
     best = 3
-    count = split(known " help version", names, /:? +/)
+    count = split(words ? known : known " help version", names, /:? +/)
     for (i = 1; i <= count; i++) {
         if (names[i] == "") continue
         sub(/:$/, "", names[i])
         far = index(names[i], wrong) == 1 && length(wrong) > 2 ? 1 : distance(wrong, names[i])
         if (far < best && far < length(wrong)) { best = far; found = names[i] }
     }
-    if (found != "") print "--" found
+    if (found != "") print (words ? "" : "--") found
 }

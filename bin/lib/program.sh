@@ -174,8 +174,16 @@ run_program() {
         [ "$is_option$word" = true--unproved ] || set -- "$@" "$word"
         [ "$word" != -- ] || is_option=
     done
-    errors=$(mktemp 2> /dev/null) || exec "$program" "$runs" "$@"
-    trap 'rm -f -- "$errors" ${copied:+"$copied"}' EXIT
+    # what is reported, which is explained afterwards; without room for it nothing is explained
+    errors=$(mktemp 2> /dev/null) || errors=
+    trap 'rm -f -- ${errors:+"$errors"} ${copied:+"$copied"}' EXIT
+    if [ -n "$errors" ] && (echo > "$errors") 2> /dev/null; then
+        explains=true
+        exec 6> "$errors"
+    else
+        explains=
+        exec 6>&2
+    fi
     # what runs next to a shell has no standard input, unless it is given it
     exec 4<&0
     running=
@@ -183,19 +191,21 @@ run_program() {
     trap 'stop_program 130' INT
     trap 'stop_program 143' TERM
     if [ -n "${by_event-}" ]; then
-        PYTHONDONTWRITEBYTECODE=1 python3 "$root/bin/lib/run.py" script_runs "$name" "$program" "$runs" "${script_name-}" "$@" <&4 2> "$errors" &
+        PYTHONDONTWRITEBYTECODE=1 python3 "$root/bin/lib/run.py" script_runs "$name" "$program" "$runs" "${script_name-}" "$@" <&4 2>&6 6>&- &
     elif [ -n "${states-}" ]; then
-        PYTHONDONTWRITEBYTECODE=1 python3 "$root/bin/lib/run.py" "${state_runner-state_runs}" "$name" "$program" "$@" <&4 2> "$errors" &
+        PYTHONDONTWRITEBYTECODE=1 python3 "$root/bin/lib/run.py" "${state_runner-state_runs}" "$name" "$program" "$@" <&4 2>&6 6>&- &
     elif [ -n "${watches-}" ] && [ -t 2 ] && [ -z "${option_follow-}" ] && command -v python3 > /dev/null; then
-        PYTHONDONTWRITEBYTECODE=1 python3 "$root/bin/lib/run.py" watched "$name" "$script" "$program" "$runs" "$@" <&4 3>&2 2> "$errors" &
+        PYTHONDONTWRITEBYTECODE=1 python3 "$root/bin/lib/run.py" watched "$name" "$script" "$program" "$runs" "$@" <&4 3>&2 2>&6 6>&- &
     else
-        "$program" "$runs" "$@" <&4 2> "$errors" &
+        "$program" "$runs" "$@" <&4 2>&6 6>&- &
     fi
     running=$!
     ended=0
     wait "$running" || ended=$?
-    cat -- "$errors" >&2
-    explain "$(head -n 1 -- "$errors")"
+    if [ -n "$explains" ]; then
+        cat -- "$errors" >&2
+        explain "$(head -n 1 -- "$errors")"
+    fi
     exit "$ended"
 }
 

@@ -327,6 +327,8 @@ def write_whole(path: str, data: bytes, is_settled: bool = False) -> None:
         os.umask(mask)
         os.chmod(next_to, 0o666 & ~mask)
         os.replace(next_to, path)
-    except BaseException:
+    except BaseException as item:
         os.unlink(next_to)
+        if isinstance(item, OSError) and not item.filename:
+            item.filename = path
         raise

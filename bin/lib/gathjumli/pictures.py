@@ -26,6 +26,23 @@ class Picture:
             f'<rect x="{x}" y="{y}" width="{SIZE - 1}" height="{SIZE - 1}" fill="{color}"><title>{escape(title)}</title></rect>'
         )
 
+    def row(self, x: Any, y: Any, count: int, color: Any, title: Any) -> None:
+        """So many squares next to each other that have one title: a dashed line."""
+        self.grow(x + SIZE * count, y + SIZE)
+        line = f'd="M{x} {y + (SIZE - 1) / 2}h{SIZE * count - 1}"'
+        stroke = f'stroke="{color}" stroke-width="{SIZE - 1}" stroke-dasharray="{SIZE - 1} 1"'
+        self.parts.append(f"<path {line} {stroke}><title>{escape(title)}</title></path>")
+
+    def legend(self, y: Any, colors: dict[str, str]) -> None:
+        """What each color stands for."""
+        x = SIZE
+        for text, color in colors.items():
+            self.parts.append(
+                f'<rect x="{x}" y="{y - SIZE + 3}" width="{SIZE - 1}" height="{SIZE - 1}" fill="{color}"/>'
+            )
+            self.text(x + SIZE + 2, y, text)
+            x += (len(text) + 5) * 7
+
     def text(self, x: Any, y: Any, text: str) -> None:
         self.grow(x + 7 * len(text), y + 4)
         self.parts.append(f'<text x="{x}" y="{y}">{escape(text)}</text>')
