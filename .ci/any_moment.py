@@ -330,6 +330,34 @@ def try_search(check: Callable, moments: Moments) -> None:
     check("a word that nobody changed", "event" not in found, found)
 
 
+def try_seek(check: Callable, moments: Moments) -> None:
+    """What is sought after 5 units of A's loop is found after as many as its instructions say, and the state is that of these units."""
+    run = moments.run
+    last = next(at for at in range(len(run.steps)) if run.steps[at].kind == "RUN")
+    for sought, most, count, is_found in (
+        ("I 000100", 9, 1, True),
+        ("I 000108", 9, 3, True),
+        ("G 000001", 9, 2, True),
+        ("W 000200", 9, 3, True),
+        ("W 000201", 3, 3, True),
+        ("W 000200", 2, 2, False),
+        ("W 000204", 9, 9, False),
+        ("W FFFFFE", 9, 9, False),
+        ("G 000010", 9, 9, False),
+    ):
+        program, other = moments.program_at(last, 5), moments.program_at(last, 5)
+        try:
+            found = program.seek(sought, "A", most)
+            lines = other.do(b"RUN A 1\n" * count).events
+            is_same = found.events == lines and found.is_found == is_found
+            check(f"{sought} is sought in {most} units", is_same, found)
+            states = [b"".join(run.view_of(one).state.data(run.pieces)) for one in (program, other)]
+            check(f"the state after {sought} was sought", states[0] == states[1])
+        finally:
+            program.close()
+            other.close()
+
+
 def try_going_on(check: Callable, program: str, folder: str) -> None:
     """A recording that began with the machines of the session before."""
     path = f"{folder}/going on"
@@ -597,6 +625,7 @@ def try_run(check: Callable, name: str, machines: Machines, script: bytes, count
         if name == "long":
             check("a long run has states within it", any(mark.unit for mark in run.marks))
             try_search(check, moments)
+            try_seek(check, moments)
             try_server(check, moments)
     finally:
         moments.close()

@@ -206,7 +206,7 @@ def type_states(check: Check, repository: str, folder: str) -> None:
 
 
 def refuse_words(check: Check, program: str, folder: str) -> None:
-    """What vm370 and bare370 answer to SAVE, VIEW, STATE and HOLDS, also if that cannot be done."""
+    """What vm370 and bare370 answer to SAVE, VIEW, SEEK, STATE and HOLDS, also if that cannot be done."""
     write(f"{folder}/directory", b"USER A PW 8K\n")
     cases = {
         "a machine of its own is saved": ([program, "bare370", "--follow", "8K"], b"SAVE\n", 0, b"> REFUSED 0\n", b""),
@@ -216,6 +216,14 @@ def refuse_words(check: Check, program: str, folder: str) -> None:
         "a user who is not there is viewed": ([program, "vm370", "--follow", f"{folder}/directory"], b"VIEW 01\nEND\n", 0, b"> REFUSED 0\n", b""),
         "a user of no number is viewed": ([program, "vm370", "--follow", f"{folder}/directory"], b"VIEW A\n", 3, b"", b"fault: file Device 1\n"),
         "a user of three digits is viewed": ([program, "vm370", "--follow", f"{folder}/directory"], b"VIEW 000\n", 3, b"", b"fault: file Device 1\n"),
+        "a machine of its own is sought in": ([program, "bare370", "--follow", "8K"], b"SEEK\n20\nI 000000\nRUN BARE 2\nEND\n", 0, b"= BARE 0 STOPPED\n> FOUND\n> DONE\n", b""),
+        "a text that does not say what is sought": ([program, "vm370", "--follow", f"{folder}/directory"], b"SEEK\n8\nRUN A 9\nEND\n", 0, b"> REFUSED 0\n", b""),
+        "a text without a run": ([program, "vm370", "--follow", f"{folder}/directory"], b"SEEK\n9\nG 000001\nEND\n", 0, b"> REFUSED 0\n", b""),
+        "a text with another user's run": ([program, "vm370", "--follow", f"{folder}/directory"], b"SEEK\n17\nG 000001\nRUN B 9\nEND\n", 0, b"> REFUSED 0\n", b""),
+        "a text with two runs": ([program, "vm370", "--follow", f"{folder}/directory"], b"SEEK\n25\nG 000001\nRUN A 9\nRUN A 9\nEND\n", 0, b"> REFUSED 0\n", b""),
+        "a text of a machine that is off": ([program, "vm370", "--follow", f"{folder}/directory"], b"SEEK\n17\nW 000000\nRUN A 2\nEND\n", 0, b"= A 0 STOPPED\n= A 0 STOPPED\n> DONE\n", b""),
+        "a text without a size": ([program, "vm370", "--follow", f"{folder}/directory"], b"SEEK\nx\n", 3, b"", b"fault: file Device 1\n"),
+        "a text that is cut": ([program, "vm370", "--follow", f"{folder}/directory"], b"SEEK\n9\nx", 3, b"", b"fault: file Device 1\n"),
         "a word that is no request": ([program, "vm370", "--follow", f"{folder}/directory"], b"HOLD\n", 3, b"", b"fault: file Device 1\n"),
         "a state of no bytes": ([program, "vm370", "--follow", f"{folder}/directory"], b"STATE\n0\n", 1, b"", b"fault: state Refused\n"),
         "a state that is cut": ([program, "vm370", "--follow", f"{folder}/directory"], b"STATE\n9\nx", 3, b"", b"fault: file Device 1\n"),

@@ -39,13 +39,15 @@ class StateRefused(Failure):
 
 class PartResult(NamedTuple):
     """What came of a part: the lines of the transcript; each file that it closed for the operator, its heading and the lines of its
-    entries, as bytes; each user's new state, a word and his name; whether its last turn found nobody ready.
+    entries, as bytes; each user's new state, a word and his name; whether its last turn found nobody ready; whether what was sought
+    was found.
     """
 
     events: list
     files: list
     states: list
     is_idle: bool
+    is_found: bool = False
 
     def headings(self) -> list:
         return [heading for heading, _ in self.files]
@@ -80,7 +82,7 @@ class Answers:
         self.states: list[tuple[str, str]] = []
         # how many entries the open files of each user have, if that was asked for
         self.held: dict[str, int] = {}
-        self.is_idle = False
+        self.is_idle = self.is_found = False
         # the pieces of a state that have arrived, and how many bytes are missing
         self.pieces: list[bytes] = []
         self.is_state = False
@@ -138,6 +140,8 @@ class Answers:
             self.held[name] = sum(map(int, counts))
         elif word == b"IDLE":
             self.is_idle = True
+        elif word == b"FOUND":
+            self.is_found = True
         elif word == b"STATE":
             self.is_state, self.awaited = True, int(rest)
         elif word in (b"DONE", b"REFUSED"):
@@ -153,7 +157,7 @@ class Answers:
         if self.held:
             return self.held
         files = [(heading, b"".join(pieces)) for heading, pieces in self.files]
-        return PartResult(self.events, files, self.states, self.is_idle)
+        return PartResult(self.events, files, self.states, self.is_idle, self.is_found)
 
 
 def text_of(line: bytes) -> str:
@@ -228,6 +232,15 @@ class Program:
         if isinstance(answer, Refused):
             raise ScriptRefused(answer.line)
         return answer
+
+    def seek(self, sought: str, user: str, units: int) -> PartResult:
+        """What came of single units of a user, until one of them has left what is sought."""
+        self.expect()
+        text = f"{sought}\nRUN {user} {units}\n".encode()
+        self.write(b"SEEK\n%d\n%s" % (len(text), text))
+        while self.awaited > 1:
+            self.answer()
+        return self.answer()
 
     def save(self) -> SavedState | None:
         """The state where all that was given has led, or None if the program has none."""

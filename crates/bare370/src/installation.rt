@@ -19,6 +19,7 @@ use machine_devices::{
 };
 use machine_panel::Mode;
 use s370_num::DevAddr;
+use s370_psw::Psw;
 use s370_store::PlainStorage;
 use s370_subchannels::Subchannel;
 use saved_bytes::{Input, RestoreError};
@@ -121,6 +122,21 @@ impl Installation for OneMachine {
     /// Returns whether the machine is ready for a slice.
     fn is_ready(&self, _user: UserNo) -> bool {
         self.machine.is_ready()
+    }
+
+    /// Returns the PSW of the machine.
+    fn psw(&self, _user: UserNo) -> Psw {
+        self.machine.psw()
+    }
+
+    /// Returns the general registers of the machine.
+    fn registers(&self, _user: UserNo) -> [u32; 16] {
+        *self.machine.general()
+    }
+
+    /// Returns a byte of the machine's storage; None past the last.
+    fn storage_byte(&self, _user: UserNo, address: u32) -> Option<u8> {
+        self.machine.storage().get(address as usize).copied()
     }
 
     /// Returns the subchannels of the machine.

@@ -1,6 +1,6 @@
 -- Parts that are answered, one after another.
-use Rattle.std.proofs.Common.{◌≡◌, ℕ, true, inl, inr, List, [], ◌∷◌, ◌++◌, Option, Some, Result, Ok, Err, refl, sym, ap}
-use Rattle.std.proofs.Common.{◌∙◌, ◌+◌, ◌⊎◌, subst, append_assoc, append-nil, length, length-append, arith}
+use Rattle.std.proofs.Common.{◌≡◌, ℕ, true, inl, inr, List, [], ◌∷◌, ◌++◌, Option, Some, None, Result, Ok, Err, refl, sym}
+use Rattle.std.proofs.Common.{ap, ◌∙◌, ◌+◌, ◌⊎◌, subst, append_assoc, append-nil, length, length-append, arith}
 use Rattle.std.specs.Prelude.{Bool, IfErr, IsErrAnd}
 use Rattle.std.specs.Io.KnownBytes.{Appends, Consumes, Keeps}
 use Rattle.std.proofs.KnownBytes.{Appends-kept, Appends-nil, Appends-trans, Consumes-nil, Consumes-trans}
@@ -15,11 +15,15 @@ use Rattle.sessions.specs.News.{modes_of}
 use Rattle.sessions.specs.declared.follow.Part.{Part}
 use Rattle.sessions.specs.declared.follow.Part.TheVariants as parts
 use Rattle.machine_panel.specs.declared.machine.Mode.{Mode}
+use Rattle.sessions.specs.Seek.{BecameSought, IsSought, seek_of}
 use Rattle.sessions.specs.Session.{Accounts, IsPlayed, at_first}
 use Rattle.sessions.specs.Transcript.{ended, transcript}
 use Rattle.sessions.specs.declared.faults.PlayError.{PlayError}
 use Rattle.sessions.specs.declared.faults.PlayError.TheVariants as plays
+use Rattle.sessions.specs.declared.follow.Seeking.{Seeking}
+use Rattle.sessions.specs.declared.follow.Seeking.TheVariants as seekings
 use Rattle.sessions.specs.declared.schedule.Detail.{Detail}
+use Rattle.sessions.specs.declared.seek.Seek.{Seek}
 use Rattle.sessions.specs.declared.files.Telling.TheVariants.{Answer}
 use Rattle.sessions.proofs.Continuing.{but_forgotten, idle_same, seen_files, seen_modes, seen_names}
 use Rattle.sessions.proofs.Histories.{front_after}
@@ -29,7 +33,7 @@ use Rattle.programs.specs.Requests.{GivesNext, IsMalformed}
 use Rattle.programs.specs.Parts.{AnswersPart, AreExchanges, Exchange, IsExchange, IsPartAnsweredPartly, InputAccounts}
 use Rattle.programs.specs.Parts.{GivesState, IsBegun, IsBrokenOff, IsCausedBy, IsFollowedTo, IsSoFar, answers_of}
 use Rattle.programs.specs.Parts.{FailureCounts, HasFailed, IsUnanswerable, PartAccounts, news_lines, news_since}
-use Rattle.programs.specs.Parts.{read_of, refused_line}
+use Rattle.programs.specs.Parts.{AnswersSeek, IsSeekAnsweredPartly, read_of, refusal, refused_line, seek_lines}
 use Rattle.programs.specs.declared.faults.Failure.{Failure}
 use Rattle.programs.specs.declared.faults.Failure.TheVariants as failures
 
@@ -155,6 +159,96 @@ pub was_refused : {W : Type 0} (i : Installation W) (old new : Scene W) (line : 
     (a b : Option (List ℕ)) → part ≡ parts.Refused new line → Became i text old part a b
     → (part_of (i.seen old.world).users text ≡ Err line) × (new ≡ old) × (b ≡ a)
 was_refused {W} i old new line text part a b e h = subst (λ (p : Part W). Became i text old p a b) e h
+
+-- ---- what is sought
+
+-- what was sought has as a transcript the lines of its units alone
+sought_alone : {W : Type 0} (i : Installation W) (seek : Seek) (found : Bool) (old new : Scene W)
+    (a b : Option (List ℕ)) (s : IsSought i seek found old new a b) → IsSought i seek found old new (Some [])
+    (Some (transcript i old.detail (names_of (i.seen old.world)) s.played.entries))
+sought_alone i seek found old new a b s =
+    let p = s.played in
+    record {
+      count = s.count;
+      most = s.most;
+      all = s.all;
+      played = record {
+        entries = p.entries;
+        done = p.done;
+        written = refl;
+        users = p.users;
+        detail = p.detail;
+        dealing = p.dealing;
+      };
+      first = s.first;
+    }
+
+-- It was sought, and whether it was found was reported.
+pub sought_told : {W : Type 0} (i : Installation W) (seek : Seek) (found : Bool) (old new : Scene W) (asking : List ℕ)
+    (a b c : Option (List ℕ)) → seek_of (i.seen old.world).users asking ≡ Some seek
+    → IsSought i seek found old new a b → Appends b c (ended (seek_lines found))
+    → (answer : List ℕ) × AnswersSeek i old asking answer new × Appends a c answer
+sought_told i seek found old new asking a b c asked s w =
+    let text = transcript i old.detail (names_of (i.seen old.world)) s.played.entries in
+    let told = ended (seek_lines found) in (
+      text ++ told,
+      inl (record {
+        seek = seek;
+        asked = asked;
+        found = found;
+        text = text;
+        sought = sought_alone i seek found old new a b s;
+        reported = refl;
+      }),
+      Appends-trans a b c text told s.played.written w,
+    )
+
+-- It was sought, and a beginning of that was reported.
+pub sought_front : {W : Type 0} (i : Installation W) (seek : Seek) (found : Bool) (old new : Scene W) (asking : List ℕ)
+    (a b c : Option (List ℕ)) → seek_of (i.seen old.world).users asking ≡ Some seek
+    → IsSought i seek found old new a b → AppendsFront b c (ended (seek_lines found))
+    → IsSeekAnsweredPartly i old asking a c
+sought_front i seek found old new asking a b c asked s w =
+    let text = transcript i old.detail (names_of (i.seen old.world)) s.played.entries in
+    let told = ended (seek_lines found) in
+    inr (inr (
+      text ++ told,
+      new,
+      inl (record {
+        seek = seek;
+        asked = asked;
+        found = found;
+        text = text;
+        sought = sought_alone i seek found old new a b s;
+        reported = refl;
+      }),
+      front_after a b c text told s.played.written w,
+    ))
+
+-- Nothing was sought, and that was reported in part.
+pub unsought_front : {W : Type 0} (i : Installation W) (old new : Scene W) (asking : List ℕ) (a b c : Option (List ℕ))
+    → seek_of (i.seen old.world).users asking ≡ None → new ≡ old → b ≡ a → AppendsFront b c refusal
+    → IsSeekAnsweredPartly i old asking a c
+unsought_front i old new asking a b c none same kept w =
+    inr (inr (
+      refusal,
+      new,
+      inr (none, same, refl),
+      subst (λ (o : Option (List ℕ)). AppendsFront o c refusal) kept w,
+    ))
+
+-- what became of it
+pub was_sought : {W : Type 0} (i : Installation W) (old new : Scene W) (found : Bool) (text : List ℕ)
+    (seeking : Seeking W) (a b : Option (List ℕ)) → seeking ≡ seekings.Done new found
+    → BecameSought i text old seeking a b → (seek : Seek) × (seek_of (i.seen old.world).users text ≡ Some seek)
+    × IsSought i seek found old new a b
+was_sought {W} i old new found text seeking a b e h = subst (λ (s : Seeking W). BecameSought i text old s a b) e h
+
+-- A text that asks for nothing left all as it was.
+pub was_unsought : {W : Type 0} (i : Installation W) (old new : Scene W) (text : List ℕ) (seeking : Seeking W)
+    (a b : Option (List ℕ)) → seeking ≡ seekings.Refused new → BecameSought i text old seeking a b
+    → (seek_of (i.seen old.world).users text ≡ None) × (new ≡ old) × (b ≡ a)
+was_unsought {W} i old new text seeking a b e h = subst (λ (s : Seeking W). BecameSought i text old s a b) e h
 
 -- the news of a part
 pub news_told : {W : Type 0} (i : Installation W) (detail : Detail) (files : ℕ) (modes : List Mode) (old new : Scene W)

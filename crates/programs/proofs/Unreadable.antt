@@ -98,6 +98,9 @@ save_line = ((λ e. cc), ((λ e. cc), ((λ e. cc), ((λ e. cc), tt))))
 state_line : HasNoEnd (codes "STATE")
 state_line = ((λ e. cc), ((λ e. cc), ((λ e. cc), ((λ e. cc), ((λ e. cc), tt)))))
 
+seek_line : HasNoEnd (codes "SEEK")
+seek_line = ((λ e. cc), ((λ e. cc), ((λ e. cc), ((λ e. cc), tt))))
+
 hold_line : HasNoEnd (codes "HOLDS")
 hold_line = ((λ e. cc), ((λ e. cc), ((λ e. cc), ((λ e. cc), ((λ e. cc), tt)))))
 
@@ -155,6 +158,8 @@ begins read requests.Holds e =
 begins read (requests.View user) h =
     let line = view_line h.0 user h.1 in
     record { line = h.0; rest = []; is = h.2; none = line.1; short = line.0 }
+begins read (requests.Seek text) h =
+    record { line = codes "SEEK"; rest = h.0; is = h.2; none = seek_line; short = omega arith }
 begins read (requests.State state) h =
     record { line = codes "STATE"; rest = h.0; is = h.2; none = state_line; short = omega arith }
 
@@ -185,6 +190,7 @@ pub record IsNoWord (word : List ℕ) : Type 0 where
   pub hold : word ≡ codes "HOLDS" → ⊥
   pub view : (user : ℕ) → IsViewLine word user → ⊥
   pub state : word ≡ codes "STATE" → ⊥
+  pub seek : word ≡ codes "SEEK" → ⊥
 
 bad_word_asked : (word more : List ℕ) → HasNoEnd word → decimal_of 9 word ≡ None → IsNoWord word
     → (request : FollowRequest) → IsAsked ((word ++ 10 ∷ []) ++ more) request → ⊥
@@ -201,6 +207,8 @@ bad_word_asked word more none number words (requests.View user) h =
     let line = view_line h.0 user h.1 in
     let same = (split_same word h.0 more [] none line.1 (sym (whole word more) ∙ h.2)).0 in
     words.view user (subst (λ (l : List ℕ). IsViewLine l user) (sym same) h.1)
+bad_word_asked word more none number words (requests.Seek s) h =
+    words.seek (split_same word (codes "SEEK") more h.0 none seek_line (sym (whole word more) ∙ h.2)).0
 bad_word_asked word more none number words (requests.State s) h =
     words.state (split_same word (codes "STATE") more h.0 none state_line (sym (whole word more) ∙ h.2)).0
 
@@ -235,6 +243,10 @@ short_part word got size none number less (requests.View user) h =
     let viewed = view_line h.0 user h.1 in
     let line = (split_same word h.0 got [] none viewed.1 (sym (whole word got) ∙ h.2)).0 in
     view_no_number h.0 user size h.1 (subst (λ (w : List ℕ). decimal_of 9 w ≡ Some size) line number)
+short_part word got size none number less (requests.Seek s) h =
+    let line = (split_same word (codes "SEEK") got h.0 none seek_line (sym (whole word got) ∙ h.2)).0 in
+    let no : decimal_of 9 (codes "SEEK") ≡ Some size = subst (λ (w : List ℕ). decimal_of 9 w ≡ Some size) line number in
+    cc
 short_part word got size none number less (requests.State s) h =
     let line = (split_same word (codes "STATE") got h.0 none state_line (sym (whole word got) ∙ h.2)).0 in
     let no : decimal_of 9 (codes "STATE") ≡ Some size = subst (λ (w : List ℕ). decimal_of 9 w ≡ Some size) line number
@@ -272,6 +284,8 @@ bad_state_asked more unframed (requests.View user) h =
     let viewed = view_line h.0 user h.1 in
     let line = (split_same (codes "STATE") h.0 more [] state_line viewed.1 h.2).0 in
     view_no_word h.0 user h.1 (codes "STATE") (λ e. omega (arith, e)) line
+bad_state_asked more unframed (requests.Seek s) h =
+    let line = (split_same (codes "STATE") (codes "SEEK") more h.0 state_line seek_line h.2).0 in cc
 bad_state_asked more unframed (requests.State s) h =
     let rest = (split_same (codes "STATE") (codes "STATE") more h.0 state_line state_line h.2).1 in
     unframed s.items (subst (λ (l : List ℕ). IsFramed l s.items) (sym rest) h.1)
@@ -282,6 +296,44 @@ pub bad_state : (more : List ℕ) → ((bytes : List ℕ) → IsFramed more byte
 bad_state more unframed = record {
   asked = λ request asked. bad_state_asked more unframed request asked;
   end = λ e. (let line = (split_same (codes "STATE") (codes "END") more [] state_line stop_line e).0 in cc);
+}
+
+seek_no_hold : codes "SEEK" ≡ codes "HOLDS" → ⊥
+seek_no_hold e =
+    let first : 83 ≡ 72 = ap (λ (l : List ℕ). get_or l 0 0) e in omega (arith, first)
+
+seek_no_save : codes "SEEK" ≡ codes "SAVE" → ⊥
+seek_no_save e =
+    let second : 69 ≡ 65 = ap (λ (l : List ℕ). get_or l 1 0) e in omega (arith, second)
+
+bad_seek_asked : (more : List ℕ) → ((bytes : List ℕ) → IsFramed more bytes → ⊥) → (request : FollowRequest)
+    → IsAsked ((codes "SEEK" ++ 10 ∷ []) ++ more) request → ⊥
+bad_seek_asked more unframed (requests.Part part) f =
+    let digits = size_is f.digits (length part.items) f.size in
+    let line = (split_same (codes "SEEK") f.digits more part.items seek_line digits.1 f.line).0 in
+    let no : decimal_of 9 (codes "SEEK") ≡ Some (length part.items) =
+    subst (λ (w : List ℕ). decimal_of 9 w ≡ Some (length part.items)) (sym line) f.size in
+    cc
+bad_seek_asked more unframed requests.Save e =
+    seek_no_save (split_same (codes "SEEK") (codes "SAVE") more [] seek_line save_line e).0
+bad_seek_asked more unframed requests.Holds e =
+    seek_no_hold (split_same (codes "SEEK") (codes "HOLDS") more [] seek_line hold_line e).0
+bad_seek_asked more unframed (requests.View user) h =
+    let viewed = view_line h.0 user h.1 in
+    let line = (split_same (codes "SEEK") h.0 more [] seek_line viewed.1 h.2).0 in
+    view_no_word h.0 user h.1 (codes "SEEK") (λ e. omega (arith, e)) line
+bad_seek_asked more unframed (requests.Seek s) h =
+    let rest = (split_same (codes "SEEK") (codes "SEEK") more h.0 seek_line seek_line h.2).1 in
+    unframed s.items (subst (λ (l : List ℕ). IsFramed l s.items) (sym rest) h.1)
+bad_seek_asked more unframed (requests.State s) h =
+    let line = (split_same (codes "SEEK") (codes "STATE") more h.0 seek_line state_line h.2).0 in cc
+
+-- the word that asks to seek, and after it no bytes with their number
+pub bad_seek : (more : List ℕ) → ((bytes : List ℕ) → IsFramed more bytes → ⊥)
+    → IsNoRequest ((codes "SEEK" ++ 10 ∷ []) ++ more)
+bad_seek more unframed = record {
+  asked = λ request asked. bad_seek_asked more unframed request asked;
+  end = λ e. (let line = (split_same (codes "SEEK") (codes "END") more [] seek_line stop_line e).0 in cc);
 }
 
 -- ---- what fails after more was read
@@ -372,6 +424,15 @@ unframed_malformed word read c e (inl f) =
     (subst IsNoRequest (sym (append_assoc (codes "STATE" ++ 10 ∷ []) read more)) (bad_state (read ++ more) (f more))))
 unframed_malformed word read c e (inr f) =
     inr (f.0, subst (λ (w : List ℕ). IsNoRequest ((w ++ 10 ∷ []) ++ read)) (sym e) (bad_state read f.1))
+
+-- SEEK before no bytes with their number is no request.
+pub unframed_seek : (word read : List ℕ) (c : Option (List ℕ)) → word ≡ codes "SEEK" → IsUnframed read c
+    → IsMalformed ((word ++ 10 ∷ []) ++ read) c
+unframed_seek word read c e (inl f) =
+    inl (λ more. subst (λ (w : List ℕ). IsNoRequest (((w ++ 10 ∷ []) ++ read) ++ more)) (sym e)
+    (subst IsNoRequest (sym (append_assoc (codes "SEEK" ++ 10 ∷ []) read more)) (bad_seek (read ++ more) (f more))))
+unframed_seek word read c e (inr f) =
+    inr (f.0, subst (λ (w : List ℕ). IsNoRequest ((w ++ 10 ∷ []) ++ read)) (sym e) (bad_seek read f.1))
 
 -- A line that is no word and no number, or has too few bytes after it, is no request.
 pub unsized_malformed : (word read : List ℕ) (c : Option (List ℕ)) → HasNoEnd word → (word ≡ codes "END" → ⊥)

@@ -36,13 +36,15 @@ IsViewLine line user = (digits : List ℕ) × (decimal_of 2 digits ≡ Some user
     × (line ≡ codes "VIEW " ++ digits)
 
 -- how a request is read: a part of the script with its size before it, the word that asks for the
--- state or for what users hold, the line that asks for the state of a user, or the word that gives
--- a state, and then that with its size
+-- state or for what users hold, the line that asks for the state of a user, or the word that asks
+-- to seek or gives a state, and then a text or that state with its size
 abbrev pub IsAsked : List ℕ → FollowRequest → Type 0
 IsAsked read (requests.Part part) = IsFramed read part.items
 IsAsked read requests.Save = read ≡ word_line (codes "SAVE")
 IsAsked read requests.Holds = read ≡ word_line (codes "HOLDS")
 IsAsked read (requests.View user) = (line : List ℕ) × IsViewLine line user × (read ≡ word_line line)
+IsAsked read (requests.Seek text) = (framed : List ℕ) × IsFramed framed text.items
+    × (read ≡ word_line (codes "SEEK") ++ framed)
 IsAsked read (requests.State state) = (framed : List ℕ) × IsFramed framed state.items
     × (read ≡ word_line (codes "STATE") ++ framed)
 

@@ -11,7 +11,9 @@
 //! the answer is a line for each, with the cards of his punch's open file and the lines of his
 //! printer's, and the line `> DONE`. The line `VIEW` with the number of a user asks for what the
 //! state has of him, of the frames and of his storage: the answer is as that to `SAVE`. The line
-//! `STATE`, a line with a size and these bytes let the session go on from that state.
+//! `SEEK`, a line with a size and these bytes run single units until one has left what is sought:
+//! the answer is the transcript of these units, the line `> FOUND` if it has, and the line `> DONE`.
+//! The line `STATE`, a line with a size and these bytes let the session go on from that state.
 //!
 //! ```text
 //! 13
@@ -30,17 +32,19 @@ ghost use Rattle.std.specs.Io.KnownBytes.{Appends};
 ghost use Rattle.s370_num.specs.Host.{AppendsFront, Counts};
 ghost use Rattle.sessions.specs.Runs.{IsRestored};
 ghost use Rattle.sessions.specs.Transcript.{ended};
-ghost use Rattle.programs.specs.Parts.{Answers, AnswersPart, InputAccounts, IsAnsweredPartly};
+ghost use Rattle.programs.specs.Parts.{Answers, AnswersPart, AnswersSeek, InputAccounts};
+ghost use Rattle.programs.specs.Parts.{IsAnsweredPartly, IsSeekAnsweredPartly};
 ghost use Rattle.programs.specs.Parts.{IsBrokenOff, IsCausedBy, IsLeft, IsStateGiven};
 ghost use Rattle.programs.specs.Parts.{IsPartAnsweredPartly, IsRestoredPartly};
 ghost use Rattle.programs.specs.Parts.{IsSavedAs, IsToldPartly, IsViewedAs, PartAccounts};
-ghost use Rattle.programs.specs.Parts.{done_line, held_text, idle_lines, news_since, told_state};
+ghost use Rattle.programs.specs.Parts.{done_line, held_text, idle_lines, news_since, seek_lines};
+ghost use Rattle.programs.specs.Parts.{told_state};
 
 use crate::faults::Failure;
 use crate::requests::{FollowRequest, NextRequest, next_input};
 use machine_panel::Mode;
 use s370_num::host::{HostFault, HostReader, HostWriter, write_all};
-use sessions::{Detail, Follower, Installation, Part};
+use sessions::{Detail, Follower, Installation, Part, Seeking};
 use std::alloc::{AllocError, Global};
 
 /// What is left of an input that was followed.
@@ -138,6 +142,7 @@ fn answer<W: HostWriter, I: Installation + Drop>(
             view(alloc, &follower, user, writer)?;
             Ok(follower)
         }
+        FollowRequest::Seek(text) => seek(alloc, follower, &text, writer),
         FollowRequest::State(state) => restore_state(alloc, follower, &state, writer),
     }
 }
@@ -235,6 +240,50 @@ fn tell_held<W: HostWriter, I: Installation + Drop>(
     write_all(writer, &lines)?;
     write_flushed(writer, b"> DONE\n")?;
     Ok(())
+}
+
+/// Seeks what a text asks for, which writes the transcript lines of its units, then writes whether
+/// it was found, and the line `> DONE`, or the line `> REFUSED 0` if the text does not ask for
+/// anything, and flushes the writer.
+fn seek<W: HostWriter, I: Installation + Drop>(
+    alloc: Global,
+    follower: Follower<I>,
+    text: &[u8],
+    writer: &mut W,
+) -> Result<Follower<I>, Failure>
+    ensures ok { IfOk result
+        (λ left. (answer : List ℕ) × AnswersSeek I.goes follower text.now answer left
+        × Appends (W.contents writer.old) (W.contents writer.new) answer) }
+    ensures detail { IfOk result (λ left. left.detail ≡ follower.detail) }
+    ensures flushed { OnOk result (W.held writer.new ≡ []) }
+    ensures err { OnErr result
+        (IsSeekAnsweredPartly I.goes follower text.now (W.contents writer.old)
+        (W.contents writer.new)) }
+    ensures cause { IfErr result (IsCausedBy ⊥ (I.goes.is_spent follower.world ≡ true)) }
+    ensures why { PartAccounts result (W.HostFile.failures writer.old)
+        (W.HostFile.failures writer.new) }
+{
+    match follower.seek(alloc, text, writer)? {
+        Seeking::Done(follower, found) => {
+            write_flushed(writer, seek_report(found))?;
+            Ok(follower)
+        }
+        Seeking::Refused(follower) => {
+            write_flushed(writer, b"> REFUSED 0\n")?;
+            Ok(follower)
+        }
+    }
+}
+
+/// Returns the line `> FOUND`, if what is sought was found, and the line `> DONE`.
+fn seek_report(found: bool) -> &'static [u8]
+    ensures { result.now ≡ ended (seek_lines found) }
+{
+    if found {
+        b"> FOUND\n> DONE\n"
+    } else {
+        b"> DONE\n"
+    }
 }
 
 /// Returns the follower that a state restores, writes the line `> DONE` and flushes the writer; an

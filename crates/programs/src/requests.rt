@@ -31,6 +31,8 @@ pub(crate) enum FollowRequest {
     Holds,
     /// The state of the user of this number.
     View(u32),
+    /// That single units are run until what is sought is found.
+    Seek(Vec<u8>),
     /// That the session goes on from a state.
     State(Vec<u8>),
 }
@@ -46,7 +48,7 @@ pub(crate) enum NextRequest {
 }
 
 /// Reads the next request of an input: a part, for the state, for that of a user, for what users
-/// hold, to go on from a state, or for the end; or that the input has ended.
+/// hold, to seek, to go on from a state, or for the end; or that the input has ended.
 pub(crate) fn next_input<R: HostReader>(
     alloc: Global,
     reader: &mut R,
@@ -75,7 +77,10 @@ pub(crate) fn next_input<R: HostReader>(
         return Ok(NextRequest::Asked(FollowRequest::View(user)));
     }
     if word.as_slice() == b"STATE".as_slice() {
-        return Ok(NextRequest::Asked(FollowRequest::State(next_state(alloc, reader)?)));
+        return Ok(NextRequest::Asked(FollowRequest::State(next_framed(alloc, reader)?)));
+    }
+    if word.as_slice() == b"SEEK".as_slice() {
+        return Ok(NextRequest::Asked(FollowRequest::Seek(next_framed(alloc, reader)?)));
     }
     Ok(NextRequest::Asked(FollowRequest::Part(next_sized(alloc, reader, &word)?)))
 }
@@ -91,10 +96,10 @@ fn viewed(line: &[u8]) -> Option<u32>
     }
 }
 
-/// Reads a line with a size, and then as many bytes of a state.
-fn next_state<R: HostReader>(alloc: Global, reader: &mut R) -> Result<Vec<u8>, HostFault>
+/// Reads a line with a size, and then as many bytes.
+fn next_framed<R: HostReader>(alloc: Global, reader: &mut R) -> Result<Vec<u8>, HostFault>
     ensures ok { IfOk result
-        (λ state. GivesSized state.items (R.remaining reader.old) (R.remaining reader.new)) }
+        (λ bytes. GivesSized bytes.items (R.remaining reader.old) (R.remaining reader.new)) }
     ensures err { IfErr result (FailsToRead IsUnframed (R.remaining reader.old)
         (R.remaining reader.new) (R.HostFile.failures reader.old)
         (R.HostFile.failures reader.new)) }

@@ -134,22 +134,30 @@ told_same i old mid es users detail =
     ap (λ (d : Detail). transcript i d (names_of (i.seen mid.world)) es) detail
     ∙ ap (λ (u : List KnownUser). transcript i old.detail (names_of (record (i.seen mid.world) { users = u })) es) users
 
+-- Acts after others are played after them, and what came of them comes after what came of the others.
+pub played_both : {W : Type 0} (i : Installation W) (xs ys : List Act) (old mid new : Scene W) (a b c : Option (List ℕ))
+    (p : IsPlayed i xs old mid a b) (q : IsPlayed i ys mid new b c) → (all : IsPlayed i (xs ++ ys) old new a c)
+    × (all.entries ≡ p.entries ++ q.entries)
+played_both i xs ys old mid new a b c p q =
+    let names = names_of (i.seen old.world) in
+    let later = subst (λ (t : List ℕ). Appends b c t) (told_same i old mid q.entries p.users p.detail) q.written in (
+      record {
+        entries = p.entries ++ q.entries;
+        done = done_append i xs ys old mid new p.entries q.entries p.done q.done;
+        written = rw (transcript_append i old.detail names p.entries q.entries)
+            (Appends-trans a b c (transcript i old.detail names p.entries) (transcript i old.detail names q.entries)
+            p.written later);
+        users = q.users ∙ p.users;
+        detail = q.detail ∙ p.detail;
+        dealing = q.dealing;
+      },
+      refl,
+    )
+
 -- Acts after others are played after them.
 pub played_more : {W : Type 0} (i : Installation W) (xs ys : List Act) (old mid new : Scene W) (a b c : Option (List ℕ))
     → IsPlayed i xs old mid a b → IsPlayed i ys mid new b c → IsPlayed i (xs ++ ys) old new a c
-played_more i xs ys old mid new a b c p q =
-    let names = names_of (i.seen old.world) in
-    let later = subst (λ (t : List ℕ). Appends b c t) (told_same i old mid q.entries p.users p.detail) q.written in
-    record {
-      entries = p.entries ++ q.entries;
-      done = done_append i xs ys old mid new p.entries q.entries p.done q.done;
-      written = rw (transcript_append i old.detail names p.entries q.entries)
-          (Appends-trans a b c (transcript i old.detail names p.entries) (transcript i old.detail names q.entries)
-          p.written later);
-      users = q.users ∙ p.users;
-      detail = q.detail ∙ p.detail;
-      dealing = q.dealing;
-    }
+played_more i xs ys old mid new a b c p q = (played_both i xs ys old mid new a b c p q).0
 
 -- what follows was written almost
 almost_more : {W : Type 0} (i : Installation W) (old mid : Scene W) (es fs : List (Entry W)) (a b c : Option (List ℕ))

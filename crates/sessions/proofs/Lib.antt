@@ -8,6 +8,7 @@ pub mod FileLines
 pub mod Stated
 pub mod Histories
 pub mod Played
+mod SingleUnits
 pub mod Queues
 pub mod Sessions
 pub mod Continuing

@@ -11,6 +11,7 @@ pub mod OneTranscript
 pub mod Noted
 pub mod Continuing
 pub mod Follow
+pub mod Seek
 pub mod Fair
 pub mod Queued
 pub mod Saved

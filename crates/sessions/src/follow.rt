@@ -19,6 +19,7 @@ ghost use Rattle.machine_devices.specs.Dropped.{AreDropped, outputs_of};
 ghost use Rattle.sessions.specs.Runs.{AppendsScene, IsRestored, IsSceneSaved};
 ghost use Rattle.sessions.specs.Saved.{AppendsUser};
 ghost use Rattle.sessions.specs.Schedule.{Scene};
+ghost use Rattle.sessions.specs.Seek.{BecameSought, IsTextSoughtPartly};
 ghost use Rattle.sessions.specs.Session.{Accounts, at_first};
 ghost use Rattle.sessions.specs.Transcript.{ended};
 ghost use Rattle.sessions.specs.declared.files.Telling.TheVariants.{Answer};
@@ -31,6 +32,7 @@ use crate::installation::Installation;
 use crate::known::read_events;
 use crate::news::{mode_change_lines, modes};
 use crate::schedule::{Detail, first_policy, first_ready};
+use crate::seek::{read_seek, seek_units};
 use crate::transcript::names;
 use cp_dispatch::{Policy, Program};
 use machine_panel::Mode;
@@ -84,6 +86,15 @@ pub enum Part<I: Installation> {
     Done(Follower<I>),
     /// Nothing of it was: this line of it, counted from 1, is the first that is refused.
     Refused(Follower<I>, u64),
+}
+
+/// What became of a text that asks to seek.
+#[derive(Drop)]
+pub enum Seeking<I: Installation> {
+    /// Units were run; whether the last of them has left what is sought.
+    Done(Follower<I>, bool),
+    /// None was: the text does not say what is sought, and who runs.
+    Refused(Follower<I>),
 }
 
 impl<I: Installation + Drop> Follower<I> {
@@ -171,6 +182,83 @@ impl<I: Installation + Drop> Follower<I> {
             policy,
             detail,
         }))
+    }
+
+    /// Runs single units of a user until one of them has left what is sought, or until he had as many
+    /// as are asked for, and writes their transcript lines; does nothing if the text does not ask
+    /// for that.
+    ///
+    /// The text is a line `I`, `G` or `W` with six hexadecimal digits, for an instruction address, a
+    /// general register or a word of storage, and then the line `RUN` of a script. A register or word
+    /// is found when it has another value than at first. After a failure there is nothing that goes
+    /// on.
+    ///
+    /// # Errors
+    ///
+    /// A `PlayError`: refused memory, a failure of the writer, or a spent installation. A beginning
+    /// may be written.
+    ///
+    /// # Examples
+    ///
+    /// ```
+    /// use bare370::machine_of;
+    /// use sessions::follow::{Follower, Seeking};
+    /// use sessions::schedule::Detail;
+    ///
+    /// let machine = machine_of(alloc, 4, Vec::new(alloc))?;
+    /// let follower = Follower::begin(alloc, machine, Detail::Whole)?;
+    /// let mut transcript = Vec::new(alloc);
+    /// let asked = b"I 000000\nRUN BARE 9\n";
+    /// let Seeking::Done(_, is_found) = follower.seek(alloc, asked, &mut transcript)? else {
+    ///     return Err("the text asks for nothing")?;
+    /// };
+    /// assert!(rt; is_found);
+    /// assert_eq!(rt; transcript.as_slice(), b"= BARE 0 STOPPED\n".as_slice());
+    /// ```
+    pub fn seek<W: HostWriter>(
+        self,
+        alloc: Global,
+        text: &[u8],
+        writer: &mut W,
+    ) -> Result<Seeking<I>, PlayError>
+        ensures ok { IfOk result (λ seeking. BecameSought I.goes text.now self seeking
+            (W.contents writer.old) (W.contents writer.new)) }
+        ensures unwritten { (same : Scene I) → result ≡ Ok (Seeking.Refused same)
+            → writer.new ≡ writer.old }
+        ensures err { OnErr result ((writer.new ≡ writer.old)
+            ⊎ IsTextSoughtPartly I.goes text.now self (W.contents writer.old)
+            (W.contents writer.new)) }
+        ensures why { Accounts result (I.goes.is_spent self.world) (I.goes.is_spent self.world)
+            (W.HostFile.failures writer.old) (W.HostFile.failures writer.new) }
+    {
+        let Follower {
+            mut installation,
+            mut policy,
+            detail,
+        } = self;
+        let Some(seek) = read_seek(alloc, &installation, text)? else {
+            return Ok(Seeking::Refused(Follower {
+                installation,
+                policy,
+                detail,
+            }));
+        };
+        let found = seek_units(
+            alloc,
+            &mut installation,
+            &mut policy,
+            detail,
+            &seek,
+            writer,
+        )?;
+        Ok(Seeking::Done(
+            Follower {
+                installation,
+                policy,
+                detail,
+            },
+            found,
+        ))
     }
 
     /// Drops the entries of the files that were closed since there were so many, which were written

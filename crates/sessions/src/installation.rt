@@ -16,6 +16,7 @@ ghost use Rattle.sessions.specs.Schedule.{ready_in};
 
 use machine_devices::{Event, FileNote, Reply, SeenDevices};
 use machine_panel::Mode;
+use s370_psw::Psw;
 use s370_subchannels::Subchannel;
 use saved_bytes::{Input, RestoreError};
 use std::alloc::{AllocError, Global};
@@ -72,6 +73,22 @@ pub trait Installation {
     fn is_ready(&self, user: UserNo) -> bool
         requires { user < length ((goes).seen self.now).users }
         ensures { result ≡ ready_in ((goes).seen self.now) user };
+
+    /// Returns the PSW of a user's machine.
+    fn psw(&self, user: UserNo) -> Psw
+        requires { user < length ((goes).seen self.now).users }
+        ensures { result ≡ (machine_at ((goes).seen self.now) user).core.processor.cpu.psw };
+
+    /// Returns the general registers of a user's machine.
+    fn registers(&self, user: UserNo) -> [u32; 16]
+        requires { user < length ((goes).seen self.now).users }
+        ensures { result ≡ (machine_at ((goes).seen self.now) user).core.processor.cpu.general };
+
+    /// Returns a byte of a user's storage, also of a page that is in no frame; None past the last.
+    fn storage_byte(&self, user: UserNo, address: u32) -> Option<u8>
+        requires { user < length ((goes).seen self.now).users }
+        ensures { result ≡ slice_get
+            (machine_at ((goes).seen self.now) user).core.processor.bytes address };
 
     /// Returns the subchannels of a user's machine.
     fn subchannels(&self, user: UserNo) -> &[Subchannel]

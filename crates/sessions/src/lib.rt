@@ -37,13 +37,14 @@ mod known;
 mod laws;
 mod news;
 pub mod schedule;
+pub mod seek;
 pub mod session;
 mod starts;
 pub mod transcript;
 
 pub use alike::transcripts_agree;
 pub use faults::{PlayError, SessionError};
-pub use follow::{Follower, Part, parts_are_a_session};
+pub use follow::{Follower, Part, Seeking, parts_are_a_session};
 pub use installation::{Installation, Refused};
 pub use joining::starts_are_in_order;
 pub use laws::{

@@ -16,6 +16,7 @@ use machine_devices::{
 };
 use machine_panel::Mode;
 use s370_num::DevAddr;
+use s370_psw::Psw;
 use s370_subchannels::Subchannel;
 use saved_bytes::{Input, RestoreError};
 use sessions::{Installation, Refused};
@@ -99,6 +100,27 @@ impl Installation for SharedMachines {
     /// Returns whether a user's machine is ready for a slice.
     fn is_ready(&self, user: UserNo) -> bool {
         self.system.is_ready(user)
+    }
+
+    /// Returns the PSW of a user's machine.
+    fn psw(&self, user: UserNo) -> Psw {
+        match self.system.psw(self.place(user)) {
+            Some(psw) => psw,
+            None => unreachable!(),
+        }
+    }
+
+    /// Returns the general registers of a user's machine.
+    fn registers(&self, user: UserNo) -> [u32; 16] {
+        match self.system.registers(self.place(user)) {
+            Some(registers) => registers,
+            None => unreachable!(),
+        }
+    }
+
+    /// Returns a byte of a user's storage, also of a page that is in no frame; None past the last.
+    fn storage_byte(&self, user: UserNo, address: u32) -> Option<u8> {
+        self.system.storage(user, address)
     }
 
     /// Returns the subchannels of a user's machine.
