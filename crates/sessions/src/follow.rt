@@ -243,14 +243,7 @@ impl<I: Installation + Drop> Follower<I> {
                 detail,
             }));
         };
-        let found = seek_units(
-            alloc,
-            &mut installation,
-            &mut policy,
-            detail,
-            &seek,
-            writer,
-        )?;
+        let found = seek_units(alloc, &mut installation, &mut policy, detail, &seek, writer)?;
         Ok(Seeking::Done(
             Follower {
                 installation,
