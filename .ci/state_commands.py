@@ -55,6 +55,8 @@ SHOWN = ["LOGON OK", "STORED", "(the state is in {folder}/typed)", "STORED", "(t
          "GPR 1 = 0000000A", "(taken back: LINE A DISPLAY G1)", "(taken back: LINE A DISPLAY G1)", "? there is nothing to take back",
          "? {folder}/nothing: No such file or directory", "? a file is to be named", "? {folder}/directory is no state file",
          "GPR 1 = 0000000A"]  # fmt: skip
+# the parts of the program
+PARTS = ("vm370", "bare370", "framemap", "mkvol", "trackmap", "logondesk")
 NO_TEXT = b"a word of the command line is no UTF-8 text, and so names no file here\n"
 
 
@@ -240,6 +242,10 @@ def refuse_words(check: Check, program: str, folder: str) -> None:
     for what, (words, given, *wanted) in cases.items():
         found = asked(words, given)
         check(what, found == tuple(wanted), *found)
+    for words in ([], ["vm371", "users"]):
+        status, out, errors = asked([program, *words], b"")
+        named = all(f" {part} ".encode() in errors for part in PARTS)
+        check(f"no part is named by {words}", (status, out, named) == (2, b"", True), errors)
 
 
 def asked(words: list, given: bytes) -> tuple[int, bytes, bytes]:

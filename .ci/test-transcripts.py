@@ -49,7 +49,7 @@ SESSIONS = {"sessions": 49, "machines": 2, "slips": 60}
 RUNS = {
     "runs-sessions": 19,
     "runs-volumes": 111,
-    "runs-words": 106,
+    "runs-words": 116,
     "runs-directories": 128,
     "runs-pages": 65,
     "runs-scripts": 110,
