@@ -138,10 +138,11 @@ IsFailedMachineFollowing Gives remaining count options =
 
 -- ---- the program
 
--- what words give for a run, and for a following
+-- what words give for a run
 abbrev pub run_rows : List (List ℕ) → List Row
 run_rows words = rows_named (command_of (codes "bare370")) words
 
+-- and for a following
 abbrev pub follow_rows : List (List ℕ) → List Row
 follow_rows words = rows_named (follow_command_of (codes "bare370")) words
 

@@ -1,5 +1,6 @@
 -- What a program reports if its words, its host or a stream fail.
-use Rattle.std.proofs.Common.{◌≡◌, ◌∙◌, ◌⊎◌, ℕ, List, [], Option, Ok, ap, inl, inr, refl, string_bytes, subst, sym, Global}
+use Rattle.std.proofs.Common.{◌≡◌, ◌∙◌, ◌⊎◌, ℕ, List, [], Option, Ok, ap, inl, inr, refl, string_bytes, subst, sym}
+use Rattle.std.proofs.Common.{Global}
 use Rattle.std.specs.Io.KnownBytes.{Appends, Keeps}
 use Rattle.s370_num.specs.Host.{IsCounted}
 use Rattle.s370_num.specs.declared.host.HostFault.{HostFault}
@@ -62,7 +63,8 @@ unflushed contents count first between last bytes fault written same kept counte
 
 -- A text that was read to its end, and states a volume.
 pub stated : {F : Type 0} (Opens : List ℕ → Giving F) (remaining : F → Option (List ℕ)) (path : List ℕ)
-    (volume : VolumeFormat) (old new : Option (List Deed)) (file left : F) (text slice : List ℕ) → Opens path old (Ok file) new
+    (volume : VolumeFormat) (old new : Option (List Deed)) (file left : F) (text slice : List ℕ)
+    → Opens path old (Ok file) new
     → IsReadAs remaining text file left → slice ≡ text → volume_of slice ≡ Ok volume
     → IsStated Opens remaining path volume old new
 stated Opens remaining path volume old new file left text slice opened read same states = record {

@@ -44,7 +44,8 @@ pub record IsRefusedText {F : Type 0} (Opens : List ℕ → Giving F)
 -- why there is no volume, and no file was created: the text was not opened, or not read, or is
 -- refused
 abbrev pub IsUnstated : {F : Type 0} → (List ℕ → Giving F)
-    → (F → Option (List ℕ)) → (F → ℕ) → List ℕ → Option (List Deed) → Option (List Deed) → ToolFailure → Type 0
+    → (F → Option (List ℕ)) → (F → ℕ) → List ℕ → Option (List Deed) → Option (List Deed)
+    → ToolFailure → Type 0
 IsUnstated Opens remaining count path old new failure =
     IsWithheld (Opens path) old new failure
     ⊎ IsUsed (Opens path) (HasFailed count failure) old new
@@ -53,7 +54,8 @@ IsUnstated Opens remaining count path old new failure =
 -- there was a volume, and the file for its image was not created, or not written to its end
 pub record IsUnwritten {F W : Type 0} (Opens : List ℕ → Giving F)
     (Creates : List ℕ → Giving W) (remaining : F → Option (List ℕ))
-    (contents : W → Option (List ℕ)) (count : W → ℕ) (paths : VolumePaths) (old new : Option (List Deed))
+    (contents : W → Option (List ℕ)) (count : W → ℕ) (paths : VolumePaths)
+    (old new : Option (List Deed))
     (failure : ToolFailure) : Type 0 where
   pub volume : VolumeFormat
   pub between : Option (List Deed)
@@ -65,7 +67,8 @@ pub record IsUnwritten {F W : Type 0} (Opens : List ℕ → Giving F)
 -- which of the two failed
 abbrev pub IsUnmade : {F W : Type 0} → (List ℕ → Giving F)
     → (List ℕ → Giving W) → (F → Option (List ℕ)) → (F → ℕ)
-    → (W → Option (List ℕ)) → (W → ℕ) → VolumePaths → Option (List Deed) → Option (List Deed) → ToolFailure → Type 0
+    → (W → Option (List ℕ)) → (W → ℕ) → VolumePaths → Option (List Deed) → Option (List Deed)
+    → ToolFailure → Type 0
 IsUnmade Opens Creates remaining read_failures contents failures paths old new failure =
     IsUnstated Opens remaining read_failures paths.text.now old new failure
     ⊎ IsUnwritten Opens Creates remaining contents failures paths old new failure

@@ -37,7 +37,8 @@ pub record IsMapped {F P : Type 0} (Opens : List ℕ → Giving F)
 
 -- the image was not opened, or not read
 abbrev pub IsUnread : {F : Type 0} → (List ℕ → Giving F)
-    → (F → Option (List ℕ)) → (F → ℕ) → List ℕ → Option (List Deed) → Option (List Deed) → ToolFailure → Type 0
+    → (F → Option (List ℕ)) → (F → ℕ) → List ℕ → Option (List Deed) → Option (List Deed)
+    → ToolFailure → Type 0
 IsUnread Opens remaining count path old new failure =
     IsWithheld (Opens path) old new failure
     ⊎ IsUsed (Opens path) (IsNoImageIn remaining count failure) old new
@@ -58,7 +59,8 @@ pub record IsUnprinted {F P : Type 0} (Opens : List ℕ → Giving F)
 -- which of the two failed
 abbrev pub IsUnmapped : {F P : Type 0} → (List ℕ → Giving F)
     → (Giving P) → (F → Option (List ℕ)) → (F → ℕ)
-    → (P → Option (List ℕ)) → (P → ℕ) → List ℕ → Option (List Deed) → Option (List Deed) → ToolFailure → Type 0
+    → (P → Option (List ℕ)) → (P → ℕ) → List ℕ → Option (List Deed) → Option (List Deed)
+    → ToolFailure → Type 0
 IsUnmapped Opens Prints remaining read_failures contents failures path old new failure =
     IsUnread Opens remaining read_failures path old new failure
     ⊎ IsUnprinted Opens Prints remaining contents failures path old new failure

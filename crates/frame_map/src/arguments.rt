@@ -34,13 +34,16 @@ pub fn arguments<'a, S: AsStr>(
     words: &'a [S],
 ) -> Result<MapOptions<'a>, UsageError>
     ensures run { IfOk result (λ options.
-        IsNamed (rows_named (command_of program.entry.now) (map S.text words.entry.now)) options.run) }
+        IsNamed (rows_named (command_of program.entry.now) (map S.text words.entry.now))
+        options.run) }
     ensures state { IfOk result (λ options. option_map (λ path. path.now) options.state
         ≡ first_of (codes "state") (rows_named (command_of program.entry.now) (map S.text words.entry.now))) }
-    ensures taken { OnOk result (HasNoFault (command_of program.entry.now) (map S.text words.entry.now)) }
+    ensures taken { OnOk result
+        (HasNoFault (command_of program.entry.now) (map S.text words.entry.now)) }
     ensures err { (sizes : SystemSizes)
         → is_taken (command_of program.entry.now) (map S.text words.entry.now) ≡ true →
-        gives_paths (rows_named (command_of program.entry.now) (map S.text words.entry.now)) ≡ true →
+        gives_paths (rows_named (command_of program.entry.now) (map S.text words.entry.now))
+        ≡ true →
         IsSized (rows_named (command_of program.entry.now) (map S.text words.entry.now)) sizes →
         IfErr result (λ error. error ≡ UsageError.Memory) }
 {

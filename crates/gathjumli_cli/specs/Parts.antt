@@ -2,7 +2,8 @@
 use Rattle.std.specs.Prelude.{ℕ, if◌then◌else◌, List, codes, Option, Some, None}
 use Rattle.std.specs.Str.{bytes_eq}
 use Rattle.gathjumli_cli.specs.declared.parts.Part.{Part}
-use Rattle.gathjumli_cli.specs.declared.parts.Part.TheVariants.{Vm370, Bare370, FrameMap, Mkvol, Trackmap, LogonDesk}
+use Rattle.gathjumli_cli.specs.declared.parts.Part.TheVariants.{Vm370, Bare370, FrameMap, Mkvol}
+use Rattle.gathjumli_cli.specs.declared.parts.Part.TheVariants.{Trackmap, LogonDesk}
 
 -- the part of this name
 abbrev pub part_of : List ℕ → Option Part

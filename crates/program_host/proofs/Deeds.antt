@@ -20,6 +20,7 @@ adds_more (Some d) (Some e) (Some f) xs ys h k = k ∙ (ap (λ (l : List Deed). 
 pub adds_same : (a b : Option (List Deed)) (xs ys : List Deed) → xs ≡ ys → Adds a b xs → Adds a b ys
 adds_same a b xs ys e h = subst (Adds a b) e h
 
+-- The first so many may be taken before each is made another.
 pub take_map : {A B : Type 0} (f : A → B) (n : ℕ) (xs : List A) → take n (map f xs) ≡ map f (take n xs)
 take_map f zero xs = refl
 take_map f (suc n) [] = refl

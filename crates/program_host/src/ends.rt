@@ -1,6 +1,6 @@
 //! How a program ends: what it says of a failure, and its exit status.
-ghost use Rattle.std.specs.Prelude.{◌≡◌, ℕ, IfOk, List, Option, codes, false, option_map, string_bytes};
-ghost use Rattle.std.specs.Prelude.{true};
+ghost use Rattle.std.specs.Prelude.{◌≡◌, ℕ, IfOk, List, Option, codes, false, option_map};
+ghost use Rattle.std.specs.Prelude.{string_bytes, true};
 ghost use Rattle.std.specs.Process.{exit_status};
 ghost use Rattle.program_host.specs.Deeds.{Adds};
 ghost use Rattle.program_host.specs.Ends.{IsFailureTold, IsToldAs, IsUseFailure, outcome_of};

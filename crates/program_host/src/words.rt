@@ -1,6 +1,6 @@
 //! The words of a program, as `clap` reads them.
-ghost use Rattle.std.specs.Prelude.{◌≡◌, ◌⊎◌, ◌↔◌, IfErr, IfOk, IfSome, None, OnOk, map, option_map};
-ghost use Rattle.std.specs.Prelude.{true};
+ghost use Rattle.std.specs.Prelude.{◌≡◌, ◌⊎◌, ◌↔◌, IfErr, IfOk, IfSome, None, OnOk, map};
+ghost use Rattle.std.specs.Prelude.{option_map, true};
 ghost use Rattle.clap.specs.Words.{all_of, app_of, first_of, found_of, is_simple};
 ghost use Rattle.clap.specs.Words.{is_simple_and_free, one_of, rows_of};
 ghost use Rattle.clap.specs.Values.{kind_of};

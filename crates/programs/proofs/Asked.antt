@@ -1,5 +1,6 @@
 -- What words ask for, as strings and as their bytes.
-use Rattle.std.proofs.Common.{◌≡◌, ◌∙◌, ◌⊎◌, ◌||◌, Bool, true, false, not, ℕ, List, [], ◌∷◌, Option, cond, map, codes, string_bytes}
+use Rattle.std.proofs.Common.{◌≡◌, ◌∙◌, ◌⊎◌, ◌||◌, Bool, true, false, not, ℕ, List, [], ◌∷◌, Option, cond, map}
+use Rattle.std.proofs.Common.{codes, string_bytes}
 use Rattle.std.proofs.Common.{Global, String, inl, inr, refl, ap, sym}
 use Rattle.std.specs.Prelude.{take_while}
 use Rattle.std.specs.List.{list_any}

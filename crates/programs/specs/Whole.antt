@@ -100,7 +100,8 @@ pub record HostStreams (F I O : Type 0) : Type 1 where
   pub Gives : List ℕ → F → Type 0
   pub remaining : F → Option (List ℕ)
   pub file_failures : F → ℕ
-  -- what standard input is when it is asked for, what is left to read of it, how often it has failed
+  -- what standard input is when it is asked for, what is left to read of it, and how often it has
+  -- failed
   pub Listened : I → Type 0
   pub typed : I → Option (List ℕ)
   pub input_failures : I → ℕ
@@ -204,7 +205,8 @@ pub record IsFollowingNamed {N F I O : Type 0} (host : HostStreams F I O) (Named
 -- a following by the options that words name has failed, with that on standard input and output
 pub record IsFailedFollowingNamed {N F I O : Type 0} (host : HostStreams F I O)
     (Named : N → Type 0)
-    (Failed : FollowFails N) (deeds_old deeds_new : Option (List Deed)) (failure : Failure) : Type 0 where
+    (Failed : FollowFails N) (deeds_old deeds_new : Option (List Deed))
+    (failure : Failure) : Type 0 where
   pub options : N
   pub input : I
   pub heard : I

@@ -188,10 +188,11 @@ IsFailedSystemFollowing Gives remaining count options =
 
 -- ---- the program
 
--- what words give for a run, and for a following
+-- what words give for a run
 abbrev pub run_rows : List (List ℕ) → List Row
 run_rows words = rows_named (command_of (codes "vm370")) words
 
+-- and for a following
 abbrev pub follow_rows : List (List ℕ) → List Row
 follow_rows words = rows_named (follow_command_of (codes "vm370")) words
 

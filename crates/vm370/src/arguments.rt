@@ -57,11 +57,14 @@ pub fn arguments<'a, S: AsStr>(
     program: &'a str,
     words: &'a [S],
 ) -> Result<Options<'a>, UsageError>
-    ensures ok { IfOk result (IsNamed (rows_named (command_of program.entry.now) (map S.text words.entry.now))) }
-    ensures taken { OnOk result (HasNoFault (command_of program.entry.now) (map S.text words.entry.now)) }
+    ensures ok { IfOk result
+        (IsNamed (rows_named (command_of program.entry.now) (map S.text words.entry.now))) }
+    ensures taken { OnOk result
+        (HasNoFault (command_of program.entry.now) (map S.text words.entry.now)) }
     ensures err { (sizes : SystemSizes)
         → is_taken (command_of program.entry.now) (map S.text words.entry.now) ≡ true →
-        gives_paths (rows_named (command_of program.entry.now) (map S.text words.entry.now)) ≡ true →
+        gives_paths (rows_named (command_of program.entry.now) (map S.text words.entry.now))
+        ≡ true →
         IsSized (rows_named (command_of program.entry.now) (map S.text words.entry.now)) sizes →
         IfErr result (λ error. error ≡ UsageError.Memory) }
 {

@@ -41,11 +41,14 @@ pub fn follow_arguments<'a, S: AsStr>(
     program: &'a str,
     words: &'a [S],
 ) -> Result<SystemFollowOptions<'a>, UsageError>
-    ensures ok { IfOk result (IsNamed (rows_named (command_of program.entry.now) (map S.text words.entry.now))) }
-    ensures taken { OnOk result (HasNoFault (command_of program.entry.now) (map S.text words.entry.now)) }
+    ensures ok { IfOk result
+        (IsNamed (rows_named (command_of program.entry.now) (map S.text words.entry.now))) }
+    ensures taken { OnOk result
+        (HasNoFault (command_of program.entry.now) (map S.text words.entry.now)) }
     ensures err { (sizes : SystemSizes)
         → is_taken (command_of program.entry.now) (map S.text words.entry.now) ≡ true →
-        gives_directory (rows_named (command_of program.entry.now) (map S.text words.entry.now)) ≡ true →
+        gives_directory (rows_named (command_of program.entry.now) (map S.text words.entry.now))
+        ≡ true →
         IsSized (rows_named (command_of program.entry.now) (map S.text words.entry.now)) sizes →
         IfErr result (λ error. error ≡ UsageError.Memory) }
 {

@@ -48,7 +48,8 @@ returns-in_err-image-clause-err g c =
       volume = c.in_ok-volume.volume;
       between = g.H.ProgramHost.deeds c.open.new.self;
       stated = stated _ _ _ _ _ _ c.in_ok-file.file c.read_all.new.reader c.in_ok-text.text.items c.deref.result.now
-          (c.in_ok-file.ensures.ok, c.in_ok-file.ensures.opened) (c.in_ok-text.ensures.ok, c.in_ok-text.ensures.end) c.deref.ensures.value
+          (c.in_ok-file.ensures.ok, c.in_ok-file.ensures.opened) (c.in_ok-text.ensures.ok, c.in_ok-text.ensures.end)
+          c.deref.ensures.value
           c.in_ok-volume.ensures.ok;
       failed = inl (record {
         fault = c.in_err-image.field-0.0;
@@ -65,7 +66,8 @@ returns-in_err-write_image-clause-err g c =
       volume = c.in_ok-volume.volume;
       between = g.H.ProgramHost.deeds c.open.new.self;
       stated = stated _ _ _ _ _ _ c.in_ok-file.file c.read_all.new.reader c.in_ok-text.text.items c.deref.result.now
-          (c.in_ok-file.ensures.ok, c.in_ok-file.ensures.opened) (c.in_ok-text.ensures.ok, c.in_ok-text.ensures.end) c.deref.ensures.value
+          (c.in_ok-file.ensures.ok, c.in_ok-file.ensures.opened) (c.in_ok-text.ensures.ok, c.in_ok-text.ensures.end)
+          c.deref.ensures.value
           c.in_ok-volume.ensures.ok;
       failed = inr (record {
         first = c.in_ok-image.image;
@@ -84,7 +86,8 @@ returns-clause-ok g c = record {
   volume = c.in_ok-volume.volume;
   between = g.H.ProgramHost.deeds c.open.new.self;
   stated = stated _ _ _ _ _ _ c.in_ok-file.file c.read_all.new.reader c.in_ok-text.text.items c.deref.result.now
-      (c.in_ok-file.ensures.ok, c.in_ok-file.ensures.opened) (c.in_ok-text.ensures.ok, c.in_ok-text.ensures.end) c.deref.ensures.value
+      (c.in_ok-file.ensures.ok, c.in_ok-file.ensures.opened) (c.in_ok-text.ensures.ok, c.in_ok-text.ensures.end)
+      c.deref.ensures.value
       c.in_ok-volume.ensures.ok;
   written = record {
     first = c.in_ok-image.image;

@@ -13,8 +13,11 @@ returns-in-Err-clause-err g c =
 
 pub returns-clause-ok : goal.returns-clause-ok
 returns-clause-ok g c =
-    on_ok_weaker c.make_image.result (λ done. (c.in-Ok.paths, IfOk-at_ok _ c.in-Ok.is c.volume_paths.ensures.ok, done)) c.make_image.ensures.ok
+    on_ok_weaker c.make_image.result
+    (λ done. (c.in-Ok.paths, IfOk-at_ok _ c.in-Ok.is c.volume_paths.ensures.ok, done)) c.make_image.ensures.ok
 
 pub returns-clause-err : goal.returns-clause-err
 returns-clause-err g c =
-    IfErr-weaker c.make_image.result _ _ (λ failure failed. inr (c.in-Ok.paths, IfOk-at_ok _ c.in-Ok.is c.volume_paths.ensures.ok, failed)) c.make_image.ensures.err
+    IfErr-weaker c.make_image.result _ _
+    (λ failure failed. inr (c.in-Ok.paths, IfOk-at_ok _ c.in-Ok.is c.volume_paths.ensures.ok, failed))
+    c.make_image.ensures.err

@@ -13,8 +13,11 @@ returns-in-Err-clause-err g c =
 
 pub returns-clause-ok : goal.returns-clause-ok
 returns-clause-ok g c =
-    on_ok_weaker c.print_map.result (λ done. (c.in-Ok.path.now, IfOk-at_ok _ c.in-Ok.is c.image_path.ensures.ok, done)) c.print_map.ensures.ok
+    on_ok_weaker c.print_map.result
+    (λ done. (c.in-Ok.path.now, IfOk-at_ok _ c.in-Ok.is c.image_path.ensures.ok, done)) c.print_map.ensures.ok
 
 pub returns-clause-err : goal.returns-clause-err
 returns-clause-err g c =
-    IfErr-weaker c.print_map.result _ _ (λ failure failed. inr (c.in-Ok.path.now, IfOk-at_ok _ c.in-Ok.is c.image_path.ensures.ok, failed)) c.print_map.ensures.err
+    IfErr-weaker c.print_map.result _ _
+    (λ failure failed. inr (c.in-Ok.path.now, IfOk-at_ok _ c.in-Ok.is c.image_path.ensures.ok, failed))
+    c.print_map.ensures.err

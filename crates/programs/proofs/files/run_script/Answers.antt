@@ -33,8 +33,9 @@ returns-in_err-session-clause-err g c =
       writer_old = g.W.HostFile.failures c.args.writer.now;
       writer_new = g.W.HostFile.failures c.session.new.writer;
     } in
-    if_err (IsFailedRun i g.I.HasVolumes.volumes g.H.ProgramHost.gives left count c.args.script.now _ c.args.machines.now
-    c.session.new.installation (deeds c.args.host.now) (deeds c.open.new.self) (contents c.args.writer.now)
+    if_err (IsFailedRun i g.I.HasVolumes.volumes g.H.ProgramHost.gives left count c.args.script.now _
+    c.args.machines.now c.session.new.installation (deeds c.args.host.now) (deeds c.open.new.self) (contents
+    c.args.writer.now)
     (contents c.session.new.writer) counts.writer_old counts.writer_new) c.from_residual-in_err-session.result
     (session_failure error) c.from_residual-in_err-session.ensures.1
     (inr (inl (record {
