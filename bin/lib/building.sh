@@ -435,7 +435,7 @@ compile() {
     wait "$trying" || true
     exec 5>&-
     trap - HUP INT TERM
-    # where nothing can be written the log has no reason
+    # on a full disk the log cannot say what went wrong
     [ "$copying" -eq 0 ] && (echo > "$room/tried") 2> /dev/null || {
         rm -rf -- "$room"
         fail "$not_writable" "the program is not built, and $compiled cannot be written"
