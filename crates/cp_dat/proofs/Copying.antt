@@ -101,15 +101,15 @@ put_part start from old middle new long inside before is =
           before.above a (omega (arith, high));
     }
 
-pub put_same : (start : ℕ) (from old new : List ℕ) → IsPutTo start from old new
-    → ((a : ℕ) → start ≤ a → a < start + 256 → get_or from a 0 ≡ get_or old a 0) → IsPutTo (start + 256) from old new
-put_same start from old new before same = record {
+pub put_same : (start end : ℕ) (from old new : List ℕ) → start ≤ end → IsPutTo start from old new
+    → ((a : ℕ) → start ≤ a → a < end → get_or from a 0 ≡ get_or old a 0) → IsPutTo end from old new
+put_same start end from old new ordered before same = record {
   size = before.size;
   below = λ a low. (elim (cases_lt a start) [
     | inl under ↦ before.below a under
     | inr over ↦ before.above a over ∙ sym (same a over low)
   ]);
-  above = λ a high. before.above a (omega (arith, high));
+  above = λ a high. before.above a (omega (arith, ordered, high));
 }
 
 -- When all bytes were put, the new bytes are those that were put.
@@ -124,11 +124,15 @@ abbrev pub SameBeside : List Bool → List ℕ → List ℕ → Type 0
 SameBeside wanted old new = (address : ℕ) → slice_index_or wanted (address / 4096) false ≡ false
     → get_or new address 0 ≡ get_or old address 0
 
-pub unwanted_same : (wanted : List Bool) (start : ℕ) (old from : List ℕ) → start % 256 ≡ 0
+-- the address of the page after that of an address
+abbrev pub next_page : ℕ → ℕ
+next_page start = (start / 4096 + 1) * 4096
+
+pub unwanted_same : (wanted : List Bool) (start : ℕ) (old from : List ℕ)
     → slice_index_or wanted (start / 4096) false ≡ false → SameBeside wanted old from → (a : ℕ) → start ≤ a
-    → a < start + 256 → get_or from a 0 ≡ get_or old a 0
-unwanted_same wanted start old from aligned away other_users a low high =
-    let page : a / 4096 ≡ start / 4096 = omega (arith, aligned, low, high) in
+    → a < next_page start → get_or from a 0 ≡ get_or old a 0
+unwanted_same wanted start old from away other_users a low high =
+    let page : a / 4096 ≡ start / 4096 = omega (arith, low, high) in
     other_users a (ap (λ k. slice_index_or wanted k false) page ∙ away)
 
 -- ---- pages
@@ -427,17 +431,18 @@ module _ (old : Dat) (from : List ℕ) (wanted : List Bool) (start : ℕ) (middl
   same_page : (start + 256) % 4096 ≢ 0 → (start + 256) / 4096 ≡ start / 4096
   same_page inner = let aligned = before.aligned in omega (arith, aligned, inner)
 
-  pub back_by : SameBeside wanted (lent_bytes old) from → slice_index_or wanted (start / 4096) false ≡ false
-      → IsBackTo old from wanted (start + 256) middle
-  back_by other_users away = record {
-    aligned = (let aligned = before.aligned in omega (arith, aligned));
-    few = inside;
-    put = put_same start from (lent_bytes old) (lent_bytes middle) before.put
-        (unwanted_same wanted start (lent_bytes old) from before.aligned away other_users);
+  -- A page that is not wanted is passed.
+  pub back_past : SameBeside wanted (lent_bytes old) from → slice_index_or wanted (start / 4096) false ≡ false
+      → IsBackTo old from wanted (next_page start) middle
+  back_past other_users away = record {
+    aligned = omega arith;
+    few = omega (arith, whole, low);
+    put = put_same start (next_page start) from (lent_bytes old) (lent_bytes middle) (omega arith) before.put
+        (unwanted_same wanted start (lent_bytes old) from away other_users);
     stand = before.stand;
-    there = λ inner it. absurd (differ away (ap (λ k. slice_index_or wanted k false) (sym (same_page inner)) ∙ it));
-    paged_in = came_fewer old middle (put_below wanted start) (put_below wanted (start + 256)) 1 1
-        (put_further wanted start) (omega arith) before.paged_in;
+    there = λ inner. absurd (inner (omega arith));
+    paged_in = came_fewer old middle (put_below wanted start) (put_below wanted (next_page start)) 1 1
+        (λ page below. (below.0, (let under = below.1 in omega (arith, under)))) (omega arith) before.paged_in;
     between = before.between;
   }
 

@@ -4,4 +4,5 @@ pub mod Brought
 mod Counted
 pub mod Once
 pub mod Copying
+pub mod SparsePages
 pub mod Written

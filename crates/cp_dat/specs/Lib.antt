@@ -5,3 +5,4 @@ pub mod Bringing
 pub mod Letting
 pub mod Laws
 pub mod Copies
+pub mod Sparse

@@ -7,9 +7,9 @@ ghost use Rattle.std.specs.Prelude.{◌≡◌, ◌≢◌, ℕ, ◌+◌, ◌*◌,
 ghost use Rattle.std.specs.Prelude.{slice_index, slice_range, IfOk, IfErr, OnOk, OnErr};
 ghost use Rattle.s370_store.specs.Access.{put};
 
-use crate::Dat;
+use crate::{Dat, SparseBytes};
 use s370_num::StorageKey;
-use s370_store::{FramesOut, PAGE_SIZE, Page, Storage, Supply, UnitSupply, put_at};
+use s370_store::{FramesOut, PAGE_SIZE, Page, Storage, Supply, UnitSupply};
 use std::alloc::{AllocError, Global};
 
 /// How many bytes are copied at once.
@@ -58,7 +58,7 @@ impl<'a> Dat<'a> {
 
     /// Copies a page, wherever it is, to its place in `into`, which has a byte for each of the
     /// storage.
-    pub fn copy_page(&self, page: Page, into: &mut [u8])
+    pub fn copy_page(&self, page: Page, into: &mut SparseBytes)
         requires inside { page.0 * 4096 < length (lent_bytes self.now) }
         requires long { length into.old ≡ length (lent_bytes self.now) }
         ensures long { length into.new ≡ length (lent_bytes self.now) }
@@ -72,7 +72,7 @@ impl<'a> Dat<'a> {
         let mut done = 0u32;
         while done < PAGE_SIZE {
             self.copy_chunk(first + done, &mut buffer);
-            put_at(into, (first + done) as usize, &buffer);
+            into.write((first + done) as usize, &buffer);
             done += CHUNK;
         }
     }
@@ -174,7 +174,7 @@ impl<'a> Dat<'a> {
     /// frame; the other pages stay.
     ///
     /// Each wanted page is in a frame or in a slot, so none is refused.
-    pub fn put_back(&mut self, from: &[u8], wanted: &[bool])
+    pub fn put_back(&mut self, from: &SparseBytes, wanted: &[bool])
         requires long { length from.now ≡ length (lent_bytes self.old) }
         requires flags { length wanted.now * 4096 ≡ length (lent_bytes self.old) }
         requires stand { StandAll self.old wanted.now }
@@ -184,14 +184,17 @@ impl<'a> Dat<'a> {
         ensures paged_in { CameOnly self.old (is_wanted wanted.now) 1 self.new }
         ensures between { IsBetweenUnits (lent_pool self.new).supply }
     {
+        let mut buffer = [0u8; 256];
         let mut start = 0u32;
         while start < self.size {
             if wanted[(start / PAGE_SIZE) as usize] {
                 self.fetch_at(start);
-                let first = start as usize;
-                self.store(start, &from[first..first + 256]);
+                from.read(start as usize, &mut buffer);
+                self.store(start, &buffer);
+                start += CHUNK;
+            } else {
+                start = (start / PAGE_SIZE + 1) * PAGE_SIZE;
             }
-            start += CHUNK;
         }
     }
 }

@@ -31,6 +31,8 @@
 mod copies;
 mod dat;
 mod laws;
+mod sparse;
 
 pub use dat::Dat;
 pub use laws::a_page_comes_once_for_a_unit;
+pub use sparse::SparseBytes;

@@ -12,7 +12,7 @@ use Rattle.cp_trial.specs.declared.storage.TouchedPages.{TouchedPages}
 
 -- its bytes: of pages that were touched its own, of the others those of the storage that is tried
 abbrev pub trial_bytes : TrialStorage → List ℕ
-trial_bytes s = written_over s.touched.items (lent_bytes s.source.now) s.bytes.items
+trial_bytes s = written_over s.touched.items (lent_bytes s.source.now) s.bytes
 
 -- the key in storage of each of its blocks
 abbrev pub trial_keys : TrialStorage → List ℕ
@@ -76,4 +76,4 @@ touched_flags pages = pages.touched.items
 -- the bytes that a dry run leaves of a storage
 abbrev pub tried_bytes : Dat → TouchedPages → List ℕ
 tried_bytes storage pages =
-    written_over pages.touched.items (lent_bytes storage) pages.bytes.items
+    written_over pages.touched.items (lent_bytes storage) pages.bytes

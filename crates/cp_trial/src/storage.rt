@@ -1,7 +1,7 @@
 //! A user's storage for a dry run: pages are copied from it when the program comes to them.
 //!
 //! A page is absent until the program comes to it. Then it is copied, from wherever it is, and is
-//! present from then on. No other page is copied; but room for each of them is filled first.
+//! present from then on. No other page is copied, and none takes time.
 ghost use Rattle.cp_dat.specs.Copies.{written_over};
 ghost use Rattle.cp_dat.specs.Lent.{lent_bytes, lent_memory};
 ghost use Rattle.s370_store.specs.Memory.{with_stored};
@@ -10,12 +10,12 @@ ghost use Rattle.std.specs.Prelude.{length};
 ghost use Rattle.std.specs.Prelude.{slice_index_or, slice_range, slice_set, Ok, IfOk};
 
 use channel_trial::TrialSupply;
-use cp_dat::Dat;
+use cp_dat::{Dat, SparseBytes};
 use s370_channel::AmpleSupply;
 use s370_num::{AccessKey, StorageKey};
 use s370_store::{
     Access, Block, Fault, FramesOut, KeySlice, Keyed, PAGE_SIZE, Page, Range, Storage, Supply,
-    UnitSupply, may_access_block, put_at, test_range,
+    UnitSupply, may_access_block, test_range,
 };
 use std::alloc::{AllocError, Global};
 
@@ -23,24 +23,24 @@ use std::alloc::{AllocError, Global};
 #[derive(Drop)]
 pub struct TrialStorage<'a> {
     source: &'a Dat<'a>,
-    /// Room for each page; only those of pages that were touched are used.
-    bytes: Vec<u8>,
+    /// Room for each page; only those of pages that were touched are written.
+    bytes: SparseBytes,
     keys: Vec<StorageKey>,
     touched: Vec<bool>,
-    ghost sized: { length bytes.items ≡ length (lent_bytes source.now) },
-    ghost addressable: { length bytes.items ≤ 4294967295 },
-    ghost keyed: { length bytes.items ≤ 2048 * length keys.items },
-    ghost a_flag_a_page: { length bytes.items ≡ 4096 * length touched.items },
-    ghost shown: { length (written_over touched.items (lent_bytes source.now) bytes.items)
-        ≡ length bytes.items },
+    ghost sized: { length bytes ≡ length (lent_bytes source.now) },
+    ghost addressable: { length bytes ≤ 4294967295 },
+    ghost keyed: { length bytes ≤ 2048 * length keys.items },
+    ghost a_flag_a_page: { length bytes ≡ 4096 * length touched.items },
+    ghost shown: { length (written_over touched.items (lent_bytes source.now) bytes)
+        ≡ length bytes },
 }
 
 /// The pages that a dry run touched, with the bytes that it left there.
 #[derive(Drop)]
 pub struct TouchedPages {
-    bytes: Vec<u8>,
+    bytes: SparseBytes,
     touched: Vec<bool>,
-    ghost a_flag_a_page: { length bytes.items ≡ 4096 * length touched.items },
+    ghost a_flag_a_page: { length bytes ≡ 4096 * length touched.items },
 }
 
 impl TouchedPages {
@@ -49,14 +49,14 @@ impl TouchedPages {
     /// Borrows the list of flags that say whether each page was touched.
     pub fn touched(&self) -> &[bool]
         ensures flags { result.now ≡ touched_flags self.now }
-        ensures size { length self.now.bytes.items ≡ 4096 * length result.now }
+        ensures size { length self.now.bytes ≡ 4096 * length result.now }
     {
         &self.touched
     }
 
     /// Borrows as many bytes as the storage has; only those of touched pages have a meaning.
-    pub(crate) fn bytes(&self) -> &[u8]
-        ensures { result.now ≡ self.now.bytes.items }
+    pub(crate) fn bytes(&self) -> &SparseBytes
+        ensures { result.now ≡ self.now.bytes }
     {
         &self.bytes
     }
@@ -75,7 +75,7 @@ impl<'a> TrialStorage<'a> {
         ensures untouched { IfOk result (λ s. (page : ℕ) → is_touched s page ≡ false) }
     {
         let size = source.size();
-        let bytes = blank_room(alloc, size)?;
+        let bytes = SparseBytes::new(alloc, size / PAGE_SIZE)?;
         let keys = source.copy_keys(alloc)?;
         let touched = vec![in alloc; false; (size / PAGE_SIZE) as usize]?;
         Ok(TrialStorage {
@@ -88,7 +88,7 @@ impl<'a> TrialStorage<'a> {
 
     /// Returns the pages that were touched, with their bytes.
     pub(crate) fn into_pages(self) -> TouchedPages
-        ensures bytes { result.bytes.items ≡ self.entry.bytes.items }
+        ensures bytes { result.bytes ≡ self.entry.bytes }
         ensures touched { result.touched.items ≡ trial_flags self.entry }
     {
         let TrialStorage {
@@ -103,6 +103,7 @@ impl<'a> TrialStorage<'a> {
     /// Overwrites bytes of touched pages from an address on; no test is made.
     fn put(&mut self, start: u32, from: &[u8])
         requires inside { start + length from.now ≤ length (trial_bytes self.old) }
+        requires short { length from.now ≤ 4096 }
         requires touched { (address : ℕ) → start ≤ address → address < start + length from.now
             → is_touched self.old (address / 4096) ≡ true }
         ensures stored { trial_memory self.new
@@ -110,7 +111,7 @@ impl<'a> TrialStorage<'a> {
         ensures size { length (trial_bytes self.new) ≡ length (trial_bytes self.old) }
         ensures flags { trial_flags self.new ≡ trial_flags self.old }
     {
-        put_at(&mut self.bytes, start as usize, from);
+        self.bytes.write(start as usize, from);
     }
 }
 
@@ -171,9 +172,7 @@ impl<'a> Storage for TrialStorage<'a> {
 
     /// Fills `into` with the bytes from `start` on; the block is not used.
     fn load_in(&self, _block: Block, start: u32, into: &mut [u8]) {
-        let first = start as usize;
-        let end = first + into.len();
-        into.copy_from_slice(&self.bytes[first..end]);
+        self.bytes.read(start as usize, into);
     }
 
     /// Overwrites storage from `start` on with the bytes of `from`; the block is not used.
@@ -183,9 +182,7 @@ impl<'a> Storage for TrialStorage<'a> {
 
     /// Fills `into` with the bytes from `start` on.
     fn load(&self, start: u32, into: &mut [u8]) {
-        let first = start as usize;
-        let end = first + into.len();
-        into.copy_from_slice(&self.bytes[first..end]);
+        self.bytes.read(start as usize, into);
     }
 
     /// Overwrites storage from `start` on with the bytes of `from`.
@@ -246,7 +243,7 @@ impl<'a> Supply for TrialStorage<'a> {
 
     /// Sets all bytes and storage keys to zero; each page counts as touched then.
     fn clear(&mut self) {
-        self.bytes.fill(0);
+        self.bytes.clear();
         self.keys.fill(StorageKey::ZERO);
         self.touched.fill(true);
     }
@@ -330,22 +327,4 @@ fn flag_at(flags: &[bool], place: u32) -> bool
     ensures { result ≡ slice_index_or flags.now place false }
 {
     flags[place as usize]
-}
-
-/// Returns so many bytes, over which pages are copied later.
-///
-/// # Errors
-///
-/// `AllocError` if memory is refused.
-fn blank_room(alloc: Global, size: u32) -> Result<Vec<u8>, AllocError>
-    requires { size % 4096 ≡ 0 }
-    ensures { IfOk result (λ made. length made.items ≡ size) }
-{
-    let size = size as usize;
-    let mut made = Vec::with_capacity(alloc, size)?;
-    let blank = [0u8; 1024];
-    while made.len() < size {
-        made.extend_from_slice(&blank)?;
-    }
-    Ok(made)
 }

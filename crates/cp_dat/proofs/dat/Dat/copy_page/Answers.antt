@@ -2,7 +2,7 @@ use Rattle.std.proofs.Common.{◌≡◌, ℕ, ◌+◌, ◌-◌, ◌*◌, ◌%◌
 use Rattle.std.proofs.Common.{rules}
 use Rattle.std.proofs.lemmas.Bool.{cases_lt}
 use Rattle.s370_store.specs.Access.{put}
-use Rattle.s370_store.proofs.Puts.{put_before, put_after}
+use Rattle.s370_store.proofs.Puts.{length-put, put_before, put_after}
 use Rattle.cp_dat.specs.Lent.{lent_bytes}
 use Rattle.cp_dat.proofs.Copying.{chunk_at, put_within}
 use Rattle.cp_dat.proofs.dat.Dat.copy_page.Goals as goal
@@ -15,7 +15,7 @@ loop-done-preserved c =
     let first : ℕ = c.args.page.0 * 4096 in
     let start : ℕ = first + c.loop-done.done in
     let part : List ℕ = c.copy_chunk.new.into in
-    let new : List ℕ = c.put_at.new.bytes in
+    let new : List ℕ = c.write.new.self in
     let whole : length bytes % 4096 ≡ 0 = search (rules, c.args.self.now.whole, c.args.self.now.sized) in
     let inside = c.requires.inside in
     let low = c.loop-done-test.true in
@@ -23,9 +23,9 @@ loop-done-preserved c =
     let long : length part ≡ 256 = search rules in
     let size = before.long in
     let fits : start + length part ≤ length c.loop-done.into = omega (arith, within, long, size) in
-    let is : new ≡ put c.loop-done.into start part = c.put_at.ensures.bytes in
+    let is : new ≡ put c.loop-done.into start part = c.write.ensures in
     record {
-      long = c.put_at.ensures.size ∙ size;
+      long = ap length is ∙ length-put c.loop-done.into part start fits ∙ size;
       chunk = long;
       aligned = omega (arith, aligned);
       few = omega (arith, low, aligned);

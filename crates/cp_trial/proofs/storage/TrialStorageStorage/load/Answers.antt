@@ -1,5 +1,4 @@
 use Rattle.std.proofs.Common.{◌≡◌, ◌∙◌, ◌+◌, ◌-◌, ◌/◌, ◌≤◌, List, ℕ, length, ap, arith, sym}
-use Rattle.std.specs.Prelude.{slice_range}
 use Rattle.cp_dat.specs.Lent.{lent_bytes}
 use Rattle.cp_dat.proofs.Written.{part_over}
 use Rattle.cp_trial.specs.Trial.{is_touched, trial_bytes, trial_flags}
@@ -10,10 +9,10 @@ returns c =
     let s = c.args.self.now in
     let end : ℕ = c.args.start + length c.args.into.now in
     let low = c.requires.granted.inside in
-    let size : length (trial_bytes s) ≡ length s.bytes.items = s.shown in
-    let long : length s.bytes.items ≡ length (lent_bytes s.source.now) = s.sized in
-    c.copy_from_slice.ensures.after ∙ ap (λ xs. slice_range xs c.args.start end) c.deref.ensures.value ∙
-    sym (part_over (trial_flags s) (lent_bytes s.source.now) s.bytes.items c.args.start end long (omega arith)
+    let size : length (trial_bytes s) ≡ length s.bytes = s.shown in
+    let long : length s.bytes ≡ length (lent_bytes s.source.now) = s.sized in
+    c.read.ensures ∙
+    sym (part_over (trial_flags s) (lent_bytes s.source.now) s.bytes c.args.start end long (omega arith)
     (omega (arith, low, size, long))
     (λ a from to. (let place : c.args.start + (a - c.args.start) ≡ a = omega (arith, from) in
     ap (λ k. is_touched s (k / 4096)) (sym place) ∙ c.requires.granted.here (a - c.args.start) (omega (
@@ -21,3 +20,9 @@ returns c =
       from,
       to,
     )))))
+
+pub read-requires-clause-inside : goal.read-requires-clause-inside
+read-requires-clause-inside c =
+    let low = c.requires.granted.inside in
+    let size : length (trial_bytes c.args.self.now) ≡ length c.args.self.now.bytes = c.args.self.now.shown in
+    omega (arith, low, size)

@@ -1,9 +1,7 @@
-use Rattle.std.proofs.Common.{◌≡◌, ◌∙◌, ◌*◌, ◌<◌, List, ℕ, [], ◌∷◌, length, get_or, ap, arith, refl, rules, sym, true}
-use Rattle.std.proofs.lemmas.List.{length-set, with_items_is}
+use Rattle.std.proofs.Common.{◌≡◌, ◌∙◌, ◌*◌, ◌<◌, List, ℕ, [], ◌∷◌, length, ap, arith, refl, rules, sym, true}
+use Rattle.std.proofs.lemmas.List.{length-set}
 use Rattle.std.specs.Prelude.{slice_set}
-use Rattle.std.specs.Vec.{with_item, with_items}
 use Rattle.s370_store.specs.Memory.{Memory, memory_of}
-use Rattle.cp_dat.specs.Copies.{written_over}
 use Rattle.cp_dat.specs.Lent.{lent_bytes}
 use Rattle.cp_dat.proofs.Written.{length-over, over_copied}
 use Rattle.cp_trial.specs.declared.storage.TrialStorage.{TrialStorage}
@@ -15,16 +13,16 @@ use Rattle.cp_trial.proofs.storage.TrialStorageSupply.bring.Goals as goal
 -- the page has a flag
 flagged : (s : TrialStorage) (page : ℕ) → page * 4096 < length (trial_bytes s) → page < length (trial_flags s)
 flagged s page low =
-    let size : length (trial_bytes s) ≡ length s.bytes.items = s.shown in
-    let pages : length s.bytes.items ≡ 4096 * length s.touched.items = s.a_flag_a_page in
+    let size : length (trial_bytes s) ≡ length s.bytes = s.shown in
+    let pages : length s.bytes ≡ 4096 * length s.touched.items = s.a_flag_a_page in
     omega (arith, low, size, pages)
 
 pub copy_page-requires-clause-inside : goal.copy_page-requires-clause-inside
 copy_page-requires-clause-inside c =
     let s = c.args.self.now in
     let low = c.requires.inside in
-    let size : length (trial_bytes s) ≡ length s.bytes.items = s.shown in
-    let long : length s.bytes.items ≡ length (lent_bytes s.source.now) = s.sized in
+    let size : length (trial_bytes s) ≡ length s.bytes = s.shown in
+    let long : length s.bytes ≡ length (lent_bytes s.source.now) = s.sized in
     omega (arith, low, size, long)
 
 pub index_mut-requires : goal.index_mut-requires
@@ -37,14 +35,9 @@ pub returns-clause-memory : goal.returns-clause-memory
 returns-clause-memory c =
     let s = c.args.self.now in
     let old : List ℕ = lent_bytes s.source.now in
-    let items : (with_items s.bytes c.copy_page.new.into).items ≡ c.copy_page.new.into =
-    with_items_is s.bytes c.copy_page.new.into
-    (c.copy_page.ensures.long ∙ sym s.sized ∙ sym (ap length c.deref_mut.ensures.value) ∙ c.deref_mut.ensures.len) in
     ap (λ xs. memory_of xs (trial_keys s))
-    (ap (λ xs. written_over (slice_set (trial_flags s) c.args.page.0 true) old xs) items ∙
-    over_copied (trial_flags s) old s.bytes.items c.copy_page.new.into c.args.page.0 s.sized c.copy_page.ensures.long
-    (flagged s c.args.page.0 c.requires.inside) c.requires.away c.copy_page.ensures.copied
-    (λ a other. c.copy_page.ensures.others a other ∙ ap (λ xs. get_or xs a 0) c.deref_mut.ensures.value))
+    (over_copied (trial_flags s) old s.bytes c.copy_page.new.into c.args.page.0 s.sized c.copy_page.ensures.long
+    (flagged s c.args.page.0 c.requires.inside) c.requires.away c.copy_page.ensures.copied c.copy_page.ensures.others)
 
 pub returns-clause-fewer : goal.returns-clause-fewer
 returns-clause-fewer c =
@@ -61,12 +54,9 @@ pub invariant_of-self : goal.invariant_of-self
 invariant_of-self c =
     let s = c.args.self.now in
     let old : List ℕ = lent_bytes s.source.now in
-    let bytes : List ℕ = (with_items s.bytes c.copy_page.new.into).items in
-    let items : bytes ≡ c.copy_page.new.into =
-    with_items_is s.bytes c.copy_page.new.into
-    (c.copy_page.ensures.long ∙ sym s.sized ∙ sym (ap length c.deref_mut.ensures.value) ∙ c.deref_mut.ensures.len) in
-    let long : length s.bytes.items ≡ length old = s.sized in
-    let same : length bytes ≡ length s.bytes.items = ap length items ∙ c.copy_page.ensures.long ∙ sym long in
+    let bytes : List ℕ = c.copy_page.new.into in
+    let long : length s.bytes ≡ length old = s.sized in
+    let same : length bytes ≡ length s.bytes = c.copy_page.ensures.long ∙ sym long in
     let few = s.addressable in
     let keys = s.keyed in
     let pages = s.a_flag_a_page in

@@ -12,18 +12,18 @@ returns-clause-memory c =
     let s = c.args.self.now in
     let old : List ℕ = lent_bytes s.source.now in
     let n : ℕ = length s.touched.items in
-    let size : length (trial_bytes s) ≡ length s.bytes.items = s.shown in
-    let long : length s.bytes.items ≡ length old = s.sized in
-    let pages : length s.bytes.items ≡ 4096 * n = s.a_flag_a_page in
-    let bytes : c.fill.new.self.items ≡ replicate (length s.bytes.items) 0 = search rules in
-    let keys : c.fill-2.new.self.items ≡ replicate (length (trial_keys s)) 0 = search rules in
-    let flags : c.fill-3.new.self.items ≡ replicate n true = search rules in
-    let zeros : length c.fill.new.self.items ≡ length old = ap length bytes ∙ length-replicate (length s.bytes.items) 0
+    let size : length (trial_bytes s) ≡ length s.bytes = s.shown in
+    let long : length s.bytes ≡ length old = s.sized in
+    let pages : length s.bytes ≡ 4096 * n = s.a_flag_a_page in
+    let bytes : c.clear.new.self ≡ replicate (length s.bytes) 0 = c.clear.ensures in
+    let keys : c.fill.new.self.items ≡ replicate (length (trial_keys s)) 0 = search rules in
+    let flags : c.fill-2.new.self.items ≡ replicate n true = search rules in
+    let zeros : length c.clear.new.self ≡ length old = ap length bytes ∙ length-replicate (length s.bytes) 0
     ∙ long in
-    ap₂ memory_of (ap (λ fs. written_over fs old c.fill.new.self.items) flags ∙
-    over_all n old c.fill.new.self.items zeros (omega (arith, pages, long)) ∙ bytes ∙
+    ap₂ memory_of (ap (λ fs. written_over fs old c.clear.new.self) flags ∙
+    over_all n old c.clear.new.self zeros (omega (arith, pages, long)) ∙ bytes ∙
     ap (λ k. replicate k 0) (sym size)) keys
 
 pub invariant_of-self-clause-shown : goal.invariant_of-self-clause-shown
 invariant_of-self-clause-shown c =
-    length-over c.fill-3.new.self.items (lent_bytes c.args.self.now.source.now) c.fill.new.self.items
+    length-over c.fill-2.new.self.items (lent_bytes c.args.self.now.source.now) c.clear.new.self
