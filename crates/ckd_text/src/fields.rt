@@ -62,7 +62,8 @@ pub fn five_of(word: &[u8]) -> Option<[u8; 5]>
 ///
 /// `AllocError` if memory is refused.
 pub fn bytes_of(alloc: Global, word: &[u8]) -> Result<Option<Vec<u8>>, AllocError>
-    ensures ok { IfOk result (λ found. option_map (λ bytes. bytes.items) found ≡ bytes_of word.now) }
+    ensures ok { IfOk result
+        (λ found. option_map (λ bytes. bytes.items) found ≡ bytes_of word.now) }
     ensures memory { OnErr result (TakesMemory word.now) }
 {
     if word == b"-".as_slice() {

@@ -1,5 +1,5 @@
-use Rattle.std.proofs.Common.{◌≡◌, ◌∙◌, ◌⊎◌, ℕ, List, [], ◌∷◌, ◌++◌, Option, Result, Ok, Err, IfOk, codes, inl, inr, subst, sym}
-use Rattle.std.proofs.Common.{Global, ap, string_bytes}
+use Rattle.std.proofs.Common.{◌≡◌, ◌∙◌, ◌⊎◌, ℕ, List, [], ◌∷◌, ◌++◌, Option, Result, Ok, Err, IfOk, codes, inl, inr}
+use Rattle.std.proofs.Common.{Global, ap, string_bytes, subst, sym}
 use Rattle.program_host.specs.Deeds.{Adds, Complains, Deed}
 use Rattle.program_host.specs.Ends.{IsLineTold, path_complaints}
 use Rattle.program_host.proofs.ends.finish.Goals as goal
