@@ -1,7 +1,7 @@
 -- The fields of a line of a volume text (docs/FORMATS.md, "Volume texts").
-use Rattle.std.specs.Prelude.{ℕ, ◌-◌, ◌==◌, ◌&&◌, ◌||◌, Bool, if◌then◌else◌, is_some, nat_le, List}
-use Rattle.std.specs.Prelude.{[], ◌++◌, length, replicate, codes, Option, Some, None, Result, Ok}
-use Rattle.std.specs.Prelude.{Err}
+use Rattle.std.specs.Prelude.{◌≡◌, ℕ, ◌-◌, ◌==◌, ◌&&◌, ◌||◌, Bool, true, if◌then◌else◌, is_some}
+use Rattle.std.specs.Prelude.{nat_le, List, [], ◌++◌, length, replicate, codes, Option, Some, None}
+use Rattle.std.specs.Prelude.{Result, Ok, Err}
 use Rattle.std.specs.List.{list_all}
 use Rattle.std.specs.Str.{bytes_eq}
 use Rattle.text_words.specs.Numbers.{digit_value, is_digit}
@@ -47,3 +47,7 @@ bytes_of word =
     if bytes_eq word (codes "-") then Some []
     else if length word == 0 then None
     else spelled_of word
+
+-- memory is taken for the bytes of a word of hexadecimal digits
+abbrev pub TakesMemory : List ℕ → Type 0
+TakesMemory word = list_all is_hexadecimal word ≡ true

@@ -1,5 +1,6 @@
 -- What a volume text says, line by line (docs/FORMATS.md, "Volume texts").
-use Rattle.std.specs.Prelude.{◌≡◌, ℕ, ◌&&◌, Bool, if◌then◌else◌, nat_le, nat_lt, List, [], ◌∷◌}
+use Rattle.std.specs.Prelude.{◌≡◌, ◌⊎◌, ℕ, ◌&&◌, Bool, true, if◌then◌else◌, nat_le, nat_lt}
+use Rattle.std.specs.Prelude.{IsSome, IsSomeAnd, List, [], ◌∷◌}
 use Rattle.std.specs.Prelude.{length, slice_index_or, codes, Option, Some, None, Result, Ok, Err}
 use Rattle.std.specs.Option.{option_map, option_and_then}
 use Rattle.std.specs.Str.{bytes_eq}
@@ -10,7 +11,7 @@ use Rattle.ckd_track.specs.Track.{Record, TrackFormat, has_room, with_last}
 use Rattle.ckd_volume.specs.Front.{track_at}
 use Rattle.ckd_volume.specs.Volume.{VolumeFormat, blank_cylinders}
 use Rattle.ckd_volume.specs.LendingVolume.{with_track}
-use Rattle.ckd_text.specs.Fields.{bytes_of, five_of, serial_of}
+use Rattle.ckd_text.specs.Fields.{TakesMemory, bytes_of, five_of, serial_of}
 use Rattle.ckd_text.specs.declared.reader.TextError.{TextError}
 use Rattle.ckd_text.specs.declared.reader.TextError.TheVariants as errors
 
@@ -119,6 +120,30 @@ stated_volume (first ∷ lines) =
 -- the volume that a text states, or the number of its first wrong line
 abbrev pub volume_of : List ℕ → Result VolumeFormat ℕ
 volume_of text = stated_volume (lines_of text)
+
+-- memory is taken for the key of a record whose id is right, and then for its data
+abbrev pub RecordTakesMemory : List ℕ → Type 0
+RecordTakesMemory fields = IsSome (five_of (word_of fields))
+    × IsSomeAnd (after_word fields) (λ more. TakesMemory (word_of more)
+    ⊎ (IsSome (bytes_of (word_of more)) × IsSomeAnd (after_word more) TakesMemory))
+
+-- a line takes memory only for a record, whose place is right
+abbrev pub LineTakesMemory : List ℕ → Type 0
+LineTakesMemory line = (bytes_eq (word_of line) (codes "REC") ≡ true)
+    × IsSomeAnd (after_word line) (λ operands.
+    IsSomeAnd (placed_of operands) (λ at. RecordTakesMemory at.rest))
+
+-- memory may be refused at one of these lines: it takes memory, and each line before it is right
+abbrev pub MayRefuseMemory : VolumeFormat → List (List ℕ) → Type 0
+MayRefuseMemory v [] = ⊥
+MayRefuseMemory v (line ∷ lines) = LineTakesMemory line
+    ⊎ ((next : VolumeFormat) × (option_and_then (with_stated v) (stated_of line) ≡ Some next)
+    × MayRefuseMemory next lines)
+
+-- the first line states a volume, which takes memory
+abbrev pub BeginsRight : List (List ℕ) → Type 0
+BeginsRight [] = ⊥
+BeginsRight (first ∷ lines) = IsSome (first_of first)
 
 -- why no volume is made of a text: memory, or its first wrong line
 abbrev pub IsRefusal : Result VolumeFormat ℕ → TextError → Type 0

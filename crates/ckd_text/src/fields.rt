@@ -1,8 +1,9 @@
 //! The fields of a line: serial numbers and bytes.
-ghost use Rattle.std.specs.Prelude.{◌≡◌, ◌<◌, ◌≤◌, IfOk, length};
+ghost use Rattle.std.specs.Prelude.{◌≡◌, ◌<◌, ◌≤◌, IfOk, OnErr, length};
 ghost use Rattle.std.specs.Option.{option_map};
 ghost use Rattle.std.specs.List.{list_all};
-ghost use Rattle.ckd_text.specs.Fields.{bytes_of, five_of, is_hexadecimal, is_letter_or_digit};
+ghost use Rattle.ckd_text.specs.Fields.{TakesMemory, bytes_of, five_of, is_hexadecimal};
+ghost use Rattle.ckd_text.specs.Fields.{is_letter_or_digit};
 ghost use Rattle.ckd_text.specs.Fields.{is_serial, serial_of, spelled_of};
 
 use hex::FromHexError;
@@ -61,7 +62,9 @@ pub fn five_of(word: &[u8]) -> Option<[u8; 5]>
 ///
 /// `AllocError` if memory is refused.
 pub fn bytes_of(alloc: Global, word: &[u8]) -> Result<Option<Vec<u8>>, AllocError>
-    ensures { IfOk result (λ found. option_map (λ bytes. bytes.items) found ≡ bytes_of word.now) }
+    ensures ok { IfOk result
+        (λ found. option_map (λ bytes. bytes.items) found ≡ bytes_of word.now) }
+    ensures memory { OnErr result (TakesMemory word.now) }
 {
     if word == b"-".as_slice() {
         return Ok(Some(Vec::new(alloc)));
@@ -75,7 +78,9 @@ pub fn bytes_of(alloc: Global, word: &[u8]) -> Result<Option<Vec<u8>>, AllocErro
 /// Returns, in a new vector, the bytes that pairs of hexadecimal digits, with letters in upper
 /// case, spell, or `None` if the word is anything else.
 fn spelled_of(alloc: Global, word: &[u8]) -> Result<Option<Vec<u8>>, AllocError>
-    ensures { IfOk result (λ found. option_map (λ bytes. bytes.items) found ≡ spelled_of word.now) }
+    ensures ok { IfOk result
+        (λ found. option_map (λ bytes. bytes.items) found ≡ spelled_of word.now) }
+    ensures memory { OnErr result (TakesMemory word.now) }
 {
     if !are_hexadecimal(word) {
         return Ok(None);

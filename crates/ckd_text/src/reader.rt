@@ -1,12 +1,12 @@
 //! The reader of volume texts: line by line.
 ghost use Rattle.std.specs.Prelude.{◌≡◌, ◌<◌, ◌≤◌, ◌+◌, IfOk, IfErr, OnOk, OnErr, Some, None, Ok};
-ghost use Rattle.std.specs.Prelude.{length};
+ghost use Rattle.std.specs.Prelude.{Err, IsSome, length};
 ghost use Rattle.text_words.specs.Lines.{lines_of, read_lines};
 ghost use Rattle.ckd_text.specs.Grammar.{ReadsGrammar};
 ghost use Rattle.ckd_text.specs.Stated.{record_in, stated};
 ghost use Rattle.ckd_text.specs.Text as said;
 ghost use Rattle.ckd_text.specs.Text.{first_of, line_step, reported, volume_of, with_stated};
-ghost use Rattle.ckd_text.specs.Text.{IsRefusal};
+ghost use Rattle.ckd_text.specs.Text.{BeginsRight, IsRefusal, MayRefuseMemory};
 
 use crate::statement::{StatedRecord, VolumeStatement, read_header, read_statement};
 use ckd_volume::Volume;
@@ -50,6 +50,7 @@ struct NoPlace;
 pub fn make_volume(alloc: Global, text: &[u8]) -> Result<Volume, TextError>
     ensures ok { IfOk result (λ volume. volume_of text.now ≡ Ok volume) }
     ensures err { IfErr result (IsRefusal (volume_of text.now)) }
+    ensures memory { result ≡ Err TextError.Memory → BeginsRight (lines_of text.now) }
 {
     if text.is_empty() {
         return Err(TextError::Line(1));
@@ -73,6 +74,7 @@ pub fn reads_grammar()
 fn blank_volume(alloc: Global, line: &[u8]) -> Result<Volume, TextError>
     ensures ok { IfOk result (λ volume. first_of line.now ≡ Some volume) }
     ensures err { IfErr result (IsRefusal (reported 1 (first_of line.now))) }
+    ensures memory { result ≡ Err TextError.Memory → IsSome (first_of line.now) }
 {
     let Some(header) = read_header(line) else {
         return Err(TextError::Line(1));
@@ -90,6 +92,8 @@ fn filled(alloc: Global, blank: Volume, lines: &[u8]) -> Result<Volume, TextErro
     ensures ok { IfOk result
         (λ volume. read_lines line_step 2 blank (lines_of lines.now) ≡ Ok volume) }
     ensures err { IfErr result (IsRefusal (read_lines line_step 2 blank (lines_of lines.now))) }
+    ensures memory { result ≡ Err TextError.Memory
+        → MayRefuseMemory blank (lines_of lines.now) }
 {
     let mut volume = blank;
     let mut rest = lines;

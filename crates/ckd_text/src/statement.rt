@@ -1,9 +1,10 @@
 //! What a line of a volume text states.
-ghost use Rattle.std.specs.Prelude.{◌≡◌, IfOk};
+ghost use Rattle.std.specs.Prelude.{◌≡◌, IfOk, IsSomeAnd, OnErr, codes, true};
 ghost use Rattle.std.specs.Option.{option_map};
+ghost use Rattle.std.specs.Str.{bytes_eq};
 ghost use Rattle.ckd_text.specs.Stated.{blank_of, placed, record_in, stated};
 ghost use Rattle.ckd_text.specs.Text.{add_by, first_of, home_by, placed_of, record_of, stated_by};
-ghost use Rattle.ckd_text.specs.Text.{stated_of, volume_by};
+ghost use Rattle.ckd_text.specs.Text.{LineTakesMemory, RecordTakesMemory, stated_of, volume_by};
 
 use crate::fields::{bytes_of, five_of, serial_of};
 use ckd_volume::MOST_CYLINDERS;
@@ -86,7 +87,8 @@ fn read_volume(operands: &[u8]) -> Option<StatedVolume>
 ///
 /// `AllocError` if memory is refused.
 pub fn read_statement(alloc: Global, line: &[u8]) -> Result<Option<VolumeStatement>, AllocError>
-    ensures { IfOk result (λ found. option_map stated found ≡ stated_of line.now) }
+    ensures ok { IfOk result (λ found. option_map stated found ≡ stated_of line.now) }
+    ensures memory { OnErr result (LineTakesMemory line.now) }
 {
     let (verb, operands) = cut_word(line);
     match operands {
@@ -101,7 +103,9 @@ fn read_operands(
     verb: &[u8],
     operands: &[u8],
 ) -> Result<Option<VolumeStatement>, AllocError>
-    ensures { IfOk result (λ found. option_map stated found ≡ stated_by verb.now operands.now) }
+    ensures ok { IfOk result (λ found. option_map stated found ≡ stated_by verb.now operands.now) }
+    ensures memory { OnErr result ((bytes_eq verb.now (codes "REC") ≡ true)
+        × IsSomeAnd (placed_of operands.now) (λ at. RecordTakesMemory at.rest)) }
 {
     let Some(place) = read_place(operands) else {
         return Ok(None);
@@ -144,7 +148,8 @@ fn read_home(place: TrackOperands<'_>) -> Option<VolumeStatement>
 /// Returns the statement of a `REC` line from its place and the record after that, or `None` if
 /// that is bad.
 fn read_add(alloc: Global, place: TrackOperands<'_>) -> Result<Option<VolumeStatement>, AllocError>
-    ensures { IfOk result (λ found. option_map stated found ≡ add_by (placed place.entry)) }
+    ensures ok { IfOk result (λ found. option_map stated found ≡ add_by (placed place.entry)) }
+    ensures memory { OnErr result (RecordTakesMemory place.entry.rest.now) }
 {
     match read_record(alloc, place.rest)? {
         Some(record) => Ok(Some(VolumeStatement::Add(place.cylinder, place.head, record))),
@@ -154,7 +159,8 @@ fn read_add(alloc: Global, place: TrackOperands<'_>) -> Result<Option<VolumeStat
 
 /// Returns the record that id, key and data in a line spell, or `None` if they are bad.
 fn read_record(alloc: Global, fields: &[u8]) -> Result<Option<StatedRecord>, AllocError>
-    ensures { IfOk result (λ found. option_map record_in found ≡ record_of fields.now) }
+    ensures ok { IfOk result (λ found. option_map record_in found ≡ record_of fields.now) }
+    ensures memory { OnErr result (RecordTakesMemory fields.now) }
 {
     let (id, more) = cut_word(fields);
     let (Some(id), Some(more)) = (five_of(id), more) else {

@@ -26,6 +26,15 @@ abbrev pub path_complaints : Option (List ℕ) → List Deed
 path_complaints None = []
 path_complaints (Some path) = Complains (codes "not saved: ") ∷ Complains (path ++ 10 ∷ []) ∷ []
 
+-- how a failure is told that is no wrong use: its line, if there is memory for it, else that there
+-- is none, and a path
+abbrev pub IsLineTold : {F S E : Type 0} → (F → Type 0) → (S → List ℕ) → Option (List ℕ)
+    → Result S E → F → F → Option (List Deed) → Option (List Deed) → Type 0
+IsLineTold is_memory bytes path (Ok line) failure reported old new = (reported ≡ failure)
+    × Adds old new (Complains (bytes line ++ 10 ∷ []) ∷ path_complaints path)
+IsLineTold is_memory bytes path (Err refused) failure reported old new = is_memory reported
+    × Adds old new (Complains (codes "fault: memory Memory" ++ 10 ∷ []) ∷ path_complaints path)
+
 -- how a failure is told: a wrong use was told before; of another the line of what is reported is
 -- printed, which is the failure itself, or that there is no memory to say it, and a path
 abbrev pub IsFailureTold : {F : Type 0} → (F → List ℕ) → (F → Option (List ℕ)) → (F → Type 0)

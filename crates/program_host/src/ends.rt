@@ -3,7 +3,7 @@ ghost use Rattle.std.specs.Prelude.{◌≡◌, ℕ, IfOk, List, Option, codes, f
 ghost use Rattle.std.specs.Prelude.{string_bytes, true};
 ghost use Rattle.std.specs.Process.{exit_status};
 ghost use Rattle.program_host.specs.Deeds.{Adds};
-ghost use Rattle.program_host.specs.Ends.{IsFailureTold, IsToldAs, IsUseFailure, outcome_of};
+ghost use Rattle.program_host.specs.Ends.{IsLineTold, IsToldAs, IsUseFailure, outcome_of};
 ghost use Rattle.program_host.specs.Ends.{path_complaints, use_complaints};
 
 use crate::host::ProgramHost;
@@ -108,24 +108,30 @@ pub fn finish<F: ProgramFailure, H: ProgramHost>(
 {
     match ended {
         Ok(()) => ProgramEnd { ended: Ok(()) },
-        Err(failure) => ProgramEnd {
-            ended: Err(tell(alloc, host, failure)),
+        // a wrong use was told by a longer text
+        Err(failure) if failure.is_wrong_words() => ProgramEnd {
+            ended: Err(failure),
         },
+        Err(failure) => {
+            let line = failure.line(alloc);
+            ProgramEnd {
+                ended: Err(tell(host, failure, line)),
+            }
+        }
     }
 }
 
-/// Prints the line of a failure, and the path of an image that is not saved, and returns the
-/// failure, or refused memory if there is none for the line; of a wrong use it prints nothing.
-///
-/// A wrong use was told by a longer text.
-fn tell<F: ProgramFailure, H: ProgramHost>(alloc: Global, host: &mut H, failure: F) -> F
-    ensures { IsFailureTold F.text F.unsaved F.is_memory F.is_usage failure result
+/// Prints this line of a failure, and the path of an image that is not saved, and returns the
+/// failure, or refused memory if there is none for the line.
+fn tell<F: ProgramFailure, H: ProgramHost>(
+    host: &mut H,
+    failure: F,
+    line: Result<String, AllocError>,
+) -> F
+    ensures { IsLineTold F.is_memory string_bytes (F.unsaved failure) line failure result
         (H.deeds host.old) (H.deeds host.new) }
 {
-    if failure.is_wrong_words() {
-        return failure;
-    }
-    match failure.line(alloc) {
+    match line {
         Ok(line) => {
             host.complain_line(&line);
             tell_path(host, failure.unsaved_path());

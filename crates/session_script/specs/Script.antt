@@ -1,7 +1,7 @@
 -- What a script says, line by line.
-use Rattle.std.specs.Prelude.{◌≡◌, ℕ, zero, suc, ◌+◌, ◌<◌, ◌==◌, ◌&&◌, Bool, true, if◌then◌else◌}
-use Rattle.std.specs.Prelude.{is_some, nat_le, List, [], ◌∷◌, ◌++◌, length, codes, Option, Some}
-use Rattle.std.specs.Prelude.{None, IfSome, Result, Ok, Err}
+use Rattle.std.specs.Prelude.{◌≡◌, ◌⊎◌, ℕ, zero, suc, ◌+◌, ◌<◌, ◌==◌, ◌&&◌, Bool, true, false, not}
+use Rattle.std.specs.Prelude.{if◌then◌else◌, is_some, nat_le, List, [], ◌∷◌, ◌++◌, length, codes}
+use Rattle.std.specs.Prelude.{Option, Some, None, IfSome, Result, Ok, Err}
 use Rattle.std.specs.Option.{option_map, option_and_then}
 use Rattle.std.specs.Str.{bytes_eq}
 use Rattle.text_words.specs.Lines.{and_then, lines_of}
@@ -190,6 +190,21 @@ read_on users number so_far (line ∷ lines) =
 -- the events that a script names, or the number of its first line that is refused
 abbrev pub script_of : List KnownUser → List ℕ → Result (List EventValue) ℕ
 script_of users text = read_on users 1 (record { events = []; cards = 0 }) (lines_of text)
+
+-- a line takes memory if it names an event, which a card, a comment and an empty line do not
+abbrev pub takes_memory : List KnownUser → ℕ → List ℕ → List (List ℕ) → Bool
+takes_memory users zero line after = not (is_ignored line) && is_some (said_of users line after)
+takes_memory users (suc left) line after = false
+
+-- memory may be refused at one of the lines that are left: it takes memory, and each line before it
+-- is read
+abbrev pub MayRefuseMemory : List KnownUser → ℕ → Reading → List (List ℕ) → Type 0
+MayRefuseMemory users number so_far [] = ⊥
+MayRefuseMemory users number so_far (line ∷ lines) =
+    (takes_memory users so_far.cards line lines ≡ true)
+    ⊎ ((next : Reading)
+    × (step users number so_far.events so_far.cards line lines ≡ Ok next)
+    × MayRefuseMemory users (number + 1) next lines)
 
 -- why a script is not read: memory, or this refusal
 abbrev pub IsRefusal : {A : Type 0} → Result A ℕ → ScriptError → Type 0

@@ -1,10 +1,11 @@
 //! The script: which texts are scripts, and the events that a script names.
 ghost use Rattle.std.specs.Prelude.{◌≡◌, ℕ, ◌<◌, ◌≤◌, ◌+◌, ◌∷◌, List, Option, Some, None, IfOk};
-ghost use Rattle.std.specs.Prelude.{IfErr, IfSome, OnOk, All, Ok, Err, length, map};
+ghost use Rattle.std.specs.Prelude.{IfErr, IfSome, OnOk, All, Ok, Err, [], length, map, true};
 ghost use Rattle.std.specs.Option.{option_map};
 ghost use Rattle.text_words.specs.Lines.{lines_of};
 ghost use Rattle.session_script.specs.Grammar.{ReadsGrammar};
 ghost use Rattle.session_script.specs.Script.{Auto, IsOfDevice, IsOfUser, IsRefusal, auto_of};
+ghost use Rattle.session_script.specs.Script.{MayRefuseMemory, takes_memory};
 ghost use Rattle.session_script.specs.Script.{deck_of, is_ignored, line_step, run_of, said};
 ghost use Rattle.session_script.specs.Script.{said_of, script_of, serve_of, step, tick_of};
 ghost use Rattle.session_script.specs.Script.{typed_of};
@@ -67,6 +68,8 @@ pub fn read_script<'a>(
     ensures devices { IfOk result
         (λ events. All (λ e. IsOfDevice users.now (said e)) events.items) }
     ensures err { IfErr result (IsRefusal (script_of users.now text.now)) }
+    ensures memory { result ≡ Err ScriptError.Memory → MayRefuseMemory users.now 1
+        (record { events = []; cards = 0 }) (lines_of text.now) }
 {
     let mut events = Vec::new(alloc);
     let mut rest = text;
@@ -102,6 +105,8 @@ fn read_line<'a>(
     ensures err { IfErr result
         (IsRefusal (step users.now number (map said events.old.items) cards line.now
         (lines_of after.now))) }
+    ensures memory { result ≡ Err ScriptError.Memory
+        → takes_memory users.now cards line.now (lines_of after.now) ≡ true }
 {
     if cards == 0 {
         return read_entry(users, number, line, after, events);
@@ -132,6 +137,8 @@ fn read_entry<'a>(
     ensures err { IfErr result
         (IsRefusal (line_step users.now number (map said events.old.items) line.now
         (lines_of after.now))) }
+    ensures memory { result ≡ Err ScriptError.Memory
+        → takes_memory users.now 0 line.now (lines_of after.now) ≡ true }
 {
     if is_ignored(line) {
         return Ok(0);

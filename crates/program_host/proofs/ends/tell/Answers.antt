@@ -1,4 +1,4 @@
-use Rattle.std.proofs.Common.{◌≡◌, ◌∙◌, ℕ, List, [], ◌∷◌, ◌++◌, Option, codes, inl, inr, refl, subst, sym}
+use Rattle.std.proofs.Common.{◌≡◌, ℕ, List, [], ◌∷◌, ◌++◌, Option, codes, refl, subst}
 use Rattle.program_host.specs.Deeds.{Adds, Complains, Deed}
 use Rattle.program_host.specs.Ends.{path_complaints}
 use Rattle.program_host.proofs.Deeds.{adds_more}
@@ -16,24 +16,21 @@ told old mid new line text at path one more e f =
 pub returns-in-Ok : goal.returns-in-Ok
 returns-in-Ok g c =
     let deeds = g.H.ProgramHost.deeds in
-    inr (
-      c.is_wrong_words.ensures.no c.if-is_wrong_words.false,
-      inl refl,
-      told (deeds c.args.host.now) (deeds c.complain_line.new.self) (deeds c.tell_path.new.host) c.deref.result.now
-          (g.F.ProgramFailure.text c.args.failure) _ (g.F.ProgramFailure.unsaved c.args.failure)
-          c.complain_line.ensures c.tell_path.ensures (c.deref.ensures ∙ c.in-Ok.ensures)
+    rw c.in-Ok.is (
+      refl,
+      told (deeds c.args.host.now) (deeds c.complain_line.new.self) (deeds c.tell_path.new.host)
+          c.deref.result.now _ _ (g.F.ProgramFailure.unsaved c.args.failure)
+          c.complain_line.ensures c.tell_path.ensures c.deref.ensures
           c.unsaved_path.ensures,
     )
 
 pub returns-in-Err : goal.returns-in-Err
 returns-in-Err g c =
     let deeds = g.H.ProgramHost.deeds in
-    inr (
-      c.is_wrong_words.ensures.no c.if-is_wrong_words.false,
-      inr c.no_memory.ensures,
-      told (deeds c.args.host.now) (deeds c.complain_line-in-Err.new.self) (deeds c.tell_path-in-Err.new.host)
-          (codes "fault: memory Memory") (g.F.ProgramFailure.text c.no_memory.result) _
-          (g.F.ProgramFailure.unsaved c.args.failure) c.complain_line-in-Err.ensures c.tell_path-in-Err.ensures
-          (sym (g.F.ProgramFailure.memory_told c.no_memory.result c.no_memory.ensures))
+    rw c.in-Err.is (
+      c.no_memory.ensures,
+      told (deeds c.args.host.now) (deeds c.complain_line-in-Err.new.self)
+          (deeds c.tell_path-in-Err.new.host) (codes "fault: memory Memory") (codes "fault: memory Memory") _
+          (g.F.ProgramFailure.unsaved c.args.failure) c.complain_line-in-Err.ensures c.tell_path-in-Err.ensures refl
           c.unsaved_path-in-Err.ensures,
     )

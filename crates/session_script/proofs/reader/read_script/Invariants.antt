@@ -1,6 +1,6 @@
-use Rattle.std.proofs.Common.{◌≡◌, ◌≤◌, ◌+◌, All, length, map}
+use Rattle.std.proofs.Common.{◌≡◌, ◌≤◌, ◌+◌, [], All, length, map}
 use Rattle.text_words.specs.Lines.{lines_of}
-use Rattle.session_script.specs.Script.{IsOfDevice, IsOfUser, read_on, said, script_of}
+use Rattle.session_script.specs.Script.{IsOfDevice, IsOfUser, MayRefuseMemory, read_on, said, script_of}
 use Rattle.session_script.proofs.reader.read_script.Given as goal
 
 abbrev pub invariant-loop-rest : goal.invariant-loop-rest
@@ -9,6 +9,9 @@ invariant-loop-rest l = record {
       (record { events = map said l.events.items; cards = l.cards }) (lines_of l.rest);
   users : All (λ e. IsOfUser l.users (said e)) l.events.items;
   devices : All (λ e. IsOfDevice l.users (said e)) l.events.items;
+  memory : MayRefuseMemory l.users l.number (record { events = map said l.events.items; cards = l.cards })
+      (lines_of l.rest)
+      → MayRefuseMemory l.users 1 (record { events = []; cards = 0 }) (lines_of l.text);
   numbered : l.number + length l.rest ≤ length l.text + 1;
 }
 
