@@ -20,15 +20,17 @@ import time
 
 TOP = os.path.dirname(os.path.dirname(os.path.realpath(__file__)))
 FOUND = "document.getElementById('found').textContent"
-# more units than are looked at before anybody stops a search: a loop that moves a word, and adds 1 to it
-UNITS = 5_000 if os.environ.get("GATHJUMLI_UNPROVED") else 400_000
-LOOP = f"""LINE A LOGON
+# a loop that moves a word, and adds 1 to it, for more units than are sought before anybody stops a search: some ten seconds of them
+RUNS = 20
+UNITS = 50_000 if os.environ.get("GATHJUMLI_UNPROVED") else 1_000_000
+TYPED = """LINE A LOGON
 LINE A STORE 100 D2030200020458100204
 LINE A STORE 10A 5A1002085010020447F00100
 LINE A STORE 208 00000001
 LINE A BEGIN 100
-RUN A {UNITS}
 """
+LOOP = TYPED + f"RUN A {UNITS}\n" * RUNS
+EVENTS = TYPED.count("\n") + RUNS
 # a loop that adds 1 to a register and stores the sum, and once stores another word there
 TWO_WAYS = """LINE A LOGON
 LINE A STORE 100 5A1002045010020059100208477001
@@ -201,7 +203,17 @@ def served(*words: str) -> Iterator[int]:
         yield port
     finally:
         server.terminate()
-        server.wait()
+        check("it ends", has_ended(server))
+
+
+def has_ended(server: subprocess.Popen) -> bool:
+    """Whether a server that was told to end does so; one that does not is killed."""
+    with contextlib.suppress(subprocess.TimeoutExpired):
+        server.wait(SECONDS_TO_GO)
+        return True
+    server.kill()
+    server.wait()
+    return False
 
 
 class Looks:
@@ -408,11 +420,11 @@ def try_stopping(browser: Browser, folder: str) -> None:
         )
         browser.js("what.value = 'word'; of.value = '300'; of.blur()")
         browser.strike("f")
-        check(
-            "a search says how far it is",
-            browser.says("so far, now at event 5 of 6"),
-            browser.text("found"),
-        )
+        is_told = browser.says(rf"so far, now at event \d+ of {EVENTS}")
+        check("a search says how far it is", is_told, browser.text("found"))
+        if not is_told:
+            # what does not last cannot be stopped
+            return
         stop = "document.getElementById('stop')"
         check("it can be stopped", browser.js(f"!{stop}.hidden"))
         browser.strike("Escape")
