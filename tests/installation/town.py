@@ -1,0 +1,65 @@
+"""Commands as they are installed, with the program that was built, and a town: an installation with users of one directory. What
+tests/installation/minutes.py, tests/installation/hosts.py and tests/installation/year.py share."""
+from __future__ import annotations
+
+from typing import TYPE_CHECKING
+import glob
+import os
+import shutil
+
+from tests.installation.basics import Site, memory_of, person, write
+from tests.installation.servers import free_port
+
+if TYPE_CHECKING:
+    from tests.lib.desk import Account
+
+TOP = os.path.dirname(os.path.dirname(os.path.dirname(os.path.realpath(__file__))))
+COMMAND = f"{TOP}/bin/installation"
+ADDRESS = "127.0.0.1"
+DEVICES = "CONSOLE 009 3215\nSPOOL 00C READER\nSPOOL 00D PUNCH\nSPOOL 00E PRINTER\n"
+# counts register 2 down and stops
+COUNTS = "STORE 100 46200100820001080002000000000000"
+
+
+def lay_out(folder: str, is_unproved: bool) -> str:
+    """The commands as they are installed, with the program that was built."""
+    repository = f"{folder}/repository"
+    for name in ("bin", "web"):
+        shutil.copytree(f"{TOP}/{name}", f"{repository}/{name}")
+    shutil.copy(f"{TOP}/VERSION", repository)
+    os.makedirs(f"{repository}/programs")
+    path = f"{TOP}/crates/gathjumli_cli/out/gathjumli_cli"
+    path = glob.glob(f"{TOP}/out/unproved/gathjumli_cli-*")[0] if is_unproved else path
+    shutil.copy(path, f"{repository}/programs/gathjumli_cli")
+    with open(f"{repository}/programs/gathjumli_cli.built", "w") as file:
+        file.write("sources 0\nkit none\nnot proved\n")
+    return repository
+
+
+class Town(Site):
+    """An installation of so many users U00, U01 .. with passwords PW00, PW01 .., at a port."""
+
+    def __init__(self, folder: str, users: int, *words: object, command: str = COMMAND) -> None:
+        os.makedirs(folder)
+        self.users = [f"U{number:02}" for number in range(users)]
+        write(
+            f"{folder}/directory",
+            "".join(f"USER {user} PW{user[1:]} 64K\n{DEVICES}" for user in self.users).encode(),
+        )
+        self.where = (ADDRESS, free_port())
+        super().__init__(
+            command, folder, f"{folder}/directory", "--listen", f"{ADDRESS}:{self.where[1]}", *words
+        )
+        self.words = [
+            word for word in self.words if word != "--listen" and not word.endswith("/socket")
+        ]
+        self.words[2:2] = ["--listen"]
+
+    async def on(self, user: Account) -> object:
+        """Somebody who has logged on."""
+        one = await person(self.where)
+        await one.logon(user, f"PW{user[1:]}")
+        return one
+
+    def told_memory(self) -> str:
+        return f"command {memory_of(self.process.pid) // 1024} MB, program {memory_of(self.program()) // 1024} MB"
