@@ -21,11 +21,12 @@ TOP = os.path.dirname(os.path.dirname(os.path.dirname(os.path.realpath(__file__)
 sys.path[:0] = [TOP, f"{TOP}/bin/lib"]
 
 from gathjumli.cli import last, number, read_arguments
-from tests.installation.basics import read, write
+from tests.lib.counting import Counts
+from tests.lib.files import read, write
+from tests.lib.places import PROGRAM
 from tests.transcripts import run as tables
 
 EXAMPLES = f"{TOP}/examples/users"
-PROGRAM = f"{TOP}/crates/gathjumli_cli/out/gathjumli_cli"
 REFUSED = "fault: state Refused\n"
 # what of the gate
 EVERY, SCRIPTS, STATES, ONE_OF = 7, 10, 10, 100
@@ -403,35 +404,25 @@ def try_spoiled(check: Check, program: str, count: int, seed: int) -> tuple[int,
     return counts[True], counts[False]
 
 
-passed = failed = 0
-
-
-def count_check(what: str, holds: object, *findings: object) -> None:
-    """Counts a test, and says what is wrong where it does not hold."""
-    global passed, failed
-    passed, failed = (passed + 1, failed) if holds else (passed, failed + 1)
-    if not holds:
-        print(f"FAILED: {what}", *findings, sep="\n    ", flush=True)
-
-
 NUMBERS = {"--every": EVERY, "--scripts": 200, "--states": 170, "--one-of": 10, "--seed": 1}
 OPTIONS = {name: number(0, 1000000) for name in NUMBERS} | {"--program": str}
 
 
 def main() -> None:
+    counted = Counts()
+    check = counted.check
     found, names = read_arguments(sys.argv[1:], OPTIONS, 0, 3)
     every, scripts, states, one_of, seed = (
         last(found[name], usual) for name, usual in NUMBERS.items()
     )
     program = last(found["--program"], PROGRAM)
     if "broken" in names or not names:
-        print("breaks:", try_broken(count_check, program, max(1, every), scripts, seed))
+        print("breaks:", try_broken(check, program, max(1, every), scripts, seed))
     if "tables" in names or not names:
-        print("breaks in tables:", try_tables(count_check, program, max(1, one_of), seed))
+        print("breaks in tables:", try_tables(check, program, max(1, one_of), seed))
     if "spoiled" in names or not names:
-        print("taken and refused:", *try_spoiled(count_check, program, states, seed))
-    print(f"{passed} passed, {failed} failed")
-    sys.exit(failed != 0)
+        print("taken and refused:", *try_spoiled(check, program, states, seed))
+    sys.exit(counted.report())
 
 
 if __name__ == "__main__":

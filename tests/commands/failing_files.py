@@ -9,7 +9,8 @@ import re
 import shutil
 import subprocess
 
-TOP = os.path.dirname(os.path.dirname(os.path.dirname(os.path.realpath(__file__))))
+from tests.lib.places import TOP
+
 SECONDS = 60
 FILE_FAILED = 3
 NOT_COPIED = 76

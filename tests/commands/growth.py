@@ -16,8 +16,10 @@ TOP = os.path.dirname(os.path.dirname(os.path.dirname(os.path.realpath(__file__)
 sys.path[:0] = [TOP, f"{TOP}/bin/lib"]
 
 from gathjumli.cli import last, number, read_arguments
-from tests.commands.broken import Case, Check, PROGRAM, Running, transcript_of, write
+from tests.commands.broken import Case, Check, Running, transcript_of
 from tests.lib.counting import Counts
+from tests.lib.files import write
+from tests.lib.places import PROGRAM
 
 
 class Size(NamedTuple):
@@ -179,7 +181,7 @@ def main() -> int:
     for name in names or PARTS:
         option, try_part, usual = PARTS[name]
         try_part(counts.check, program, last(found[option], usual))
-    return counts.ended()
+    return counts.report()
 
 
 if __name__ == "__main__":

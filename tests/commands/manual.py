@@ -17,6 +17,11 @@ import tempfile
 
 sys.dont_write_bytecode = True
 TOP = os.path.dirname(os.path.dirname(os.path.dirname(os.path.realpath(__file__))))
+sys.path.insert(0, TOP)
+
+from tests.lib.counting import report_faults
+from tests.lib.installed import install, program_of
+
 SECONDS = 60
 
 PROGRAM = """         ORG   X'100'
@@ -153,22 +158,9 @@ def blocks_of(text: str) -> list[Block]:
 
 
 def lay_out(folder: str, argument: str) -> None:
-    """The commands and their program, as an installation has them."""
-    shutil.copytree(f"{TOP}/bin", f"{folder}/bin", ignore=shutil.ignore_patterns("__pycache__"))
+    """The commands and their program, as an installation has them, with its examples."""
+    install(folder, program_of(argument == "--unproved"))
     shutil.copytree(f"{TOP}/examples", f"{folder}/examples")
-    for name in ("VERSION", "web"):
-        os.symlink(f"{TOP}/{name}", f"{folder}/{name}")
-    os.mkdir(f"{folder}/programs")
-    os.symlink(program_of(argument), f"{folder}/programs/gathjumli_cli")
-    with open(f"{folder}/programs/gathjumli_cli.built", "w") as file:
-        file.write("sources 0\nkit none\nproved\n")
-
-
-def program_of(argument: str) -> str:
-    if argument != "--unproved":
-        return f"{TOP}/crates/gathjumli_cli/out/gathjumli_cli"
-    found = glob.glob(f"{TOP}/out/unproved/gathjumli_cli-*")
-    return found[0] if found else f"{TOP}/out/unproved/gathjumli_cli"
 
 
 def make_room(folder: str, laid_out: str, page: str, commands: Commands) -> str:
@@ -281,11 +273,7 @@ def main(argument: str) -> int:
             lay_out(laid_out, argument)
         for page, text in commands.pages().items():
             faults[page] = faults_of_page(page, text, folder, laid_out, commands)
-    for fault in sum(faults.values(), []):
-        print(f"FAILED: {fault}")
-    failed = sum(map(bool, faults.values()))
-    print(f"{len(faults) - failed} passed, {failed} failed")
-    return 1 if failed else 0
+    return report_faults(faults)
 
 
 if __name__ == "__main__":

@@ -28,28 +28,32 @@ os.environ.pop("GATHJUMLI_UNPROVED", None)
 PEOPLE = f"{TOP}/tests/commands/recorded"
 RECORDING = f"{PEOPLE}/recording"
 sys.path[:0] = [TOP, f"{TOP}/bin/lib"]
-from tests.replay import any_moment
-from tests.commands import broken
+from tests.commands import broken, growth, scripts_for_people, state_commands, watching
+from tests.installation import (
+    basics,
+    faults,
+    figures,
+    keeping,
+    maps,
+    operators,
+    page_tables,
+    proxies,
+    reload,
+    replays,
+    spool,
+    states,
+    strangers,
+    strays,
+    watchdog,
+)
 from tests.lib import desk
-from tests.installation import basics
-from tests.installation import faults
-from tests.installation import figures
-from tests.installation import keeping
-from tests.installation import maps
-from tests.installation import operators
-from tests.installation import proxies
-from tests.installation import reload
-from tests.installation import replays
-from tests.installation import spool
-from tests.installation import states
-from tests.installation import strangers
-from tests.installation import strays
-from tests.installation import watchdog
-from tests.installation import page_tables
-from tests.commands import scripts_for_people
-from tests.commands import state_commands
-from tests.commands import growth
-from tests.commands import watching
+from tests.lib.counting import Counts
+from tests.lib.files import read, write
+from tests.lib.installed import copy_commands
+from tests.lib.places import PROGRAM
+from tests.lib.sites import DIRECTORY, make_site
+from tests.lib.stand_in import stand_in
+from tests.replay import any_moment
 
 if TYPE_CHECKING:
     from tests.lib.desk import Account
@@ -58,7 +62,6 @@ COMMANDS = (
     "terminal trace370 replay turns deck2script printouts img2vol vol2img vol2text framepicture trackpicture installation operator "
     "report store"
 ).split()
-PROGRAM = f"{TOP}/crates/gathjumli_cli/out/gathjumli_cli"
 BUILDING = ["terminal", "trace370", "turns"]
 # words before a file that is not there
 WORDS = {
@@ -70,27 +73,8 @@ WORDS |= {name: ["o"] for name in ("img2vol", "vol2img", "printouts")}
 # of a file for the operator; a card that looks like one has blanks after it
 HEADING = re.compile(b"^== P(?:RT|UN) [0-9]{4} [A-Z0-9]+\n", re.M)
 
-passed = failed = 0
-
-
-def check(what: str, holds: object, *findings: object) -> None:
-    """Counts a test, and says what is wrong where it does not hold."""
-    global passed, failed
-    if holds:
-        passed += 1
-        return
-    failed += 1
-    print(f"FAILED: {what}", *findings, sep="\n    ")
-
-
-def read(path: str) -> bytes:
-    with open(path, "rb") as file:
-        return file.read()
-
-
-def write(path: str, data: bytes) -> None:
-    with open(path, "wb") as file:
-        file.write(data if isinstance(data, bytes) else data.encode())
+counted = Counts()
+check = counted.check
 
 
 # --- programs that are played ---
@@ -141,7 +125,7 @@ def play(part: str, words: list[str]) -> None:
         desk.stand_in(words)
         sys.exit(0)
     if "PEOPLE_STAND_IN" in os.environ:
-        basics.stand_in(words)
+        stand_in(words)
         sys.exit(0)
     if "--follow" in words:
         status, errors = follow(part, words)
@@ -202,9 +186,7 @@ BUILT = f'exec "{PROGRAM}" "$@"'
 def make_repository(work: str, program: str = PLAYED) -> object:
     """A repository of the commands and of a program that is played, or is the one that was built, and a kit that builds it."""
     repository = f"{work}/a place with blanks/repository"
-    shutil.copytree(f"{TOP}/bin", f"{repository}/bin", ignore=shutil.ignore_patterns("__pycache__"))
-    shutil.copytree(f"{TOP}/web", f"{repository}/web")
-    shutil.copy(f"{TOP}/VERSION", repository)
+    copy_commands(repository)
     write(f"{repository}/crates.txt", "low:\ngathjumli_cli: low\n")
     for crate in ("low", "gathjumli_cli"):
         os.makedirs(f"{repository}/crates/{crate}/src")
@@ -1040,7 +1022,7 @@ def test_installation(repository: str, work: str) -> None:
     """People at an installation, over a stand-in for the program."""
     basics.try_tables(check, work)
     os.environ["PEOPLE_STAND_IN"] = "yes"
-    write(f"{work}/directory", basics.DIRECTORY)
+    write(f"{work}/directory", DIRECTORY)
     write(f"{work}/nothing", "")
     Done(repository, "vm370", "--", f"{work}/directory", f"{work}/nothing")
     basics.try_typed(check, desk.answers)
@@ -1401,11 +1383,11 @@ def try_over_programs(repository: str, folder: str) -> None:
         f"{repository}/bin/installation",
         f"{repository}/crates/gathjumli_cli/out/gathjumli_cli",
     )
-    faults.try_killed_program(check, basics.make_site(command, f"{folder}/killed"), program)
-    operators.try_operators(check, basics.make_site(command, f"{folder}/operators"))
-    operators.try_commands(check, basics.make_site(command, f"{folder}/commands"))
+    faults.try_killed_program(check, make_site(command, f"{folder}/killed"), program)
+    operators.try_operators(check, make_site(command, f"{folder}/operators"))
+    operators.try_commands(check, make_site(command, f"{folder}/commands"))
     states.try_over_program(check, command, program, f"{folder}/states")
-    strangers.try_floods(check, basics.make_site(command, f"{folder}/floods"))
+    strangers.try_floods(check, make_site(command, f"{folder}/floods"))
 
     def run(name: str, *words: str, **given: object) -> Done:
         return Done(repository, name, *words, **given)
@@ -1444,8 +1426,7 @@ def main() -> None:
         basics.try_all(check, repository, f"{folder.name}/sites", is_stand_in=False)
         try_over_programs(repository, folder.name)
         try_states(repository, f"{folder.name}/state commands")
-        print(f"{passed} passed, {failed} failed")
-        sys.exit(failed != 0)
+        sys.exit(counted.report())
     for test in [item for name, item in globals().items() if name.startswith("test_")]:
         work = tempfile.mkdtemp()
         path = os.environ["PATH"]
@@ -1456,8 +1437,7 @@ def main() -> None:
             shutil.rmtree(work)
     if sys.argv[1:] == ["--record"]:
         record(folder.name)
-    print(f"{passed} passed, {failed} failed")
-    sys.exit(failed != 0)
+    sys.exit(counted.report())
 
 
 main()

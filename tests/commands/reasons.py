@@ -10,7 +10,6 @@ from collections.abc import Iterator
 import glob
 import os
 import re
-import shutil
 import subprocess
 import sys
 import tempfile
@@ -18,9 +17,11 @@ import tempfile
 sys.dont_write_bytecode = True
 TOP = os.path.dirname(os.path.dirname(os.path.dirname(os.path.realpath(__file__))))
 sys.path[:0] = [TOP, f"{TOP}/bin/lib"]
-from tests.commands import failing_files
-from tests.transcripts.program_runs import bytes_of, text_of
 from gathjumli.reasons import reason
+from tests.commands import failing_files
+from tests.lib.counting import report
+from tests.lib.installed import install, program_of
+from tests.transcripts.program_runs import bytes_of, text_of
 
 TABLE = f"{TOP}/tests/commands/reasons.txt"
 # how many runs the table has at least, how many of them name file, line and column, and how many texts the others refuse
@@ -66,34 +67,12 @@ def runs_of(text: str) -> object:
     return found
 
 
-def program_of(argument: object) -> str:
-    """Where the program is that was built."""
-    if argument == "--built":
-        return f"{TOP}/crates/gathjumli_cli/out/gathjumli_cli"
-    environment = {**os.environ, "GATHJUMLI_UNPROVED": "1"}
-    done = subprocess.run(
-        [f"{TOP}/bin/lib/built", "test-reasons", "path"],
-        env=environment,
-        capture_output=True,
-        check=True,
-    )
-    return done.stdout.decode().strip()
-
-
-def lay_out(folder: str, argument: object) -> None:
+def lay_out(folder: str, argument: str) -> None:
     """The commands and their program, as an installation has them."""
-    shutil.copytree(f"{TOP}/bin", f"{folder}/bin")
-    shutil.copy(f"{TOP}/VERSION", folder)
-    os.mkdir(f"{folder}/programs")
-    place = f"{folder}/programs/gathjumli_cli"
     if argument:
-        os.symlink(program_of(argument), place)
+        install(folder, program_of(argument == "--unproved"))
     else:
-        with open(place, "w") as file:
-            file.write(STAND_IN)
-        os.chmod(place, 0o755)
-    with open(f"{place}.built", "w") as file:
-        file.write("sources 0\nkit none\nproved\n")
+        install(folder, text=STAND_IN)
 
 
 def difference(run: object, folder: str) -> str | None:
@@ -172,8 +151,7 @@ def main(argument: object) -> int:
         failed.append(f"there are {len(cases)} runs with files that fail")
     for entry in failed:
         print(f"FAILED: {entry}")
-    print(f"{len(runs) + len(refused) + len(cases) - len(failed)} passed, {len(failed)} failed")
-    return 1 if failed else 0
+    return report(len(runs) + len(refused) + len(cases) - len(failed), len(failed))
 
 
 if __name__ == "__main__":

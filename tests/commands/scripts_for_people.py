@@ -3,6 +3,7 @@ failed, over bare370."""
 from __future__ import annotations
 
 from gathjumli import loading
+from tests.lib.files import write
 
 # register 1 becomes 5; then the machine waits for nothing
 SOURCE = """ ORG X'100'
@@ -37,11 +38,6 @@ REASONS = {
 }
 # sixteen bytes at 100; a card's 48 begin at F0
 STORES = {"stores": 1, "deck": 2}
-
-
-def write(path: str, text: object) -> None:
-    with open(path, "wb") as file:
-        file.write(text if isinstance(text, bytes) else text.encode())
 
 
 def try_scripts(check: object, work: str, run: object) -> None:

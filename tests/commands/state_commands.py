@@ -7,7 +7,8 @@ import re
 import subprocess
 
 from tests.commands.broken import EXAMPLES as ALL_EXAMPLES, example
-from tests.installation.basics import image_of, read, write
+from tests.lib.files import read, write
+from tests.lib.images import blank_image
 
 Check = Callable[..., None]
 
@@ -266,7 +267,7 @@ def refuse_volumes(check: Check, program: str, folder: str) -> None:
     write(f"{folder}/directory", TWO_VOLUMES.encode())
     write(f"{folder}/none", b"USER A PW 8K\n")
     for serial in ("VOLA", "VOLB", "VOLC"):
-        write(f"{folder}/{serial}", image_of(serial, 2))
+        write(f"{folder}/{serial}", blank_image(serial, 2))
     refused = (1, b"", b"fault: state Refused\n")
     cases = {
         "a state over its volumes": ("directory", "VOLA VOLB", "VOLA VOLB", (0, b"> DONE\n", b"")),

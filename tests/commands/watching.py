@@ -13,10 +13,8 @@ import sys
 import tempfile
 import time
 
-TOP = os.path.dirname(os.path.dirname(os.path.dirname(os.path.realpath(__file__))))
-sys.path.insert(0, f"{TOP}/bin/lib")
-
 from gathjumli.watched import Count, turns_in
+from tests.lib.places import TOP
 
 # a script, how many runs, serves and turns it has, a transcript of it, and how many of them it has the ends of
 COUNTED = {

@@ -18,6 +18,10 @@ import tempfile
 
 sys.dont_write_bytecode = True
 TOP = os.path.dirname(os.path.dirname(os.path.dirname(os.path.realpath(__file__))))
+sys.path.insert(0, TOP)
+
+from tests.lib.counting import report
+
 SCRATCH = "page_examples"
 HEAD = "use std::test::Fail;\n"
 BEGIN = """
@@ -238,8 +242,7 @@ def main(names: list[str]) -> int:
     ]
     for fault in faults:
         print(f"FAILED: {fault}")
-    print(f"{sum(map(len, pages.values())) - len(wrong)} passed, {len(faults)} failed")
-    return 1 if faults else 0
+    return report(sum(map(len, pages.values())) - len(wrong), len(faults))
 
 
 if __name__ == "__main__":

@@ -19,6 +19,10 @@ import tempfile
 
 sys.dont_write_bytecode = True
 TOP = os.path.dirname(os.path.dirname(os.path.dirname(os.path.realpath(__file__))))
+sys.path.insert(0, TOP)
+
+from tests.lib.counting import report
+
 LIST = f"{TOP}/tests/crates/wrong-bodies.txt"
 # what a check of a crate reads
 PARTS = ("src", "specs", "proofs")
@@ -198,8 +202,7 @@ def main() -> int:
             for name, why in (end for end in ends if end[1]):
                 failed += 1
                 print(f"FAILED: {crate}, {name}: {why}", flush=True)
-    print(f"{len(bodies) - failed} passed, {failed} failed")
-    return 1 if failed else 0
+    return report(len(bodies) - failed, failed)
 
 
 if __name__ == "__main__":

@@ -1,380 +1,31 @@
-"""People at an installation, as programs: what tests/commands/people.py and tests/installation/minutes.py share."""
+"""What an installation does for people: logging on, files, recovery, and its end. Called by tests/commands/people.py."""
 from __future__ import annotations
 
 from collections.abc import Callable, Iterator
 import asyncio
 import collections
-import atexit
-import contextlib
-import json
 import os
 import re
-import resource
-import select
 import signal
 import socket
 import subprocess
-import sys
-import tempfile
 import time
 
-# what somebody is reported who has come
-BANNER = "GATHJUMLI ONLINE: TYPE LOGON NAME"
+from tests.lib.files import names_in, read, write
+from tests.lib.images import blank_image
+from tests.lib.sites import (
+    BANNER,
+    PRINTS,
+    logged_on,
+    make_site,
+    person,
+    processor_ticks,
+    replayed,
+    run,
+    until_so,
+)
+
 TELLS = re.compile("([0-9:]{8}) (.*)")
-# how long anything that has to come may take
-PATIENCE = 60
-
-
-class Site:
-    """An installation that can be started, ended and killed; what its operator was reported."""
-
-    def __init__(self, command: str, folder: str, directory: str, *words: object) -> None:
-        self.command = command
-        self.folder = folder
-        self.record = f"{folder}/recording"
-        self.words = ["--record", self.record, "--listen", f"{folder}/socket", *words]
-        self.paths = [directory]
-        self.process = None
-        self.findings = []
-
-    def start(self, *more: object, most_bytes: object = None) -> object:
-        """Starts it; most_bytes: how long a file may become, as on a disk that is full."""
-        before = most_bytes and (
-            lambda: resource.setrlimit(resource.RLIMIT_FSIZE, (most_bytes, most_bytes))
-        )
-        streams = {"stdin": subprocess.PIPE, "stdout": subprocess.PIPE, "stderr": subprocess.STDOUT}
-        words = [self.command, *self.words, *more, *self.paths]
-        self.process = subprocess.Popen(
-            words, start_new_session=True, text=True, bufsize=1, preexec_fn=before, **streams
-        )
-        self.findings.append("")
-        # whatever ends this, it does not stay
-        atexit.register(self.process.kill)
-        return self
-
-    def online(self, *more: object, most_bytes: object = None) -> object:
-        self.start(*more, most_bytes=most_bytes)
-        if not self.await_message("online at"):
-            raise AssertionError("\n".join(self.findings))
-        return self
-
-    def await_message(self, text: str, seconds: object = PATIENCE) -> bool:
-        """Waits until a text was shown to the operator since the last start; whether that came. Progress makes it patient."""
-        until = time.monotonic() + seconds
-        output = self.process.stdout
-        while text not in self.since_start():
-            if not select.select([output], [], [], max(0, until - time.monotonic()))[0]:
-                return False
-            if not (data := os.read(output.fileno(), 65536)):
-                return text in self.since_start()
-            self.findings.append(data.decode(errors="replace"))
-            if "% done" in self.findings[-1]:
-                # it goes on from a recording, and says that it appears on
-                until = time.monotonic() + seconds
-        return True
-
-    def since_start(self) -> str:
-        last = max(place for place, item in enumerate(self.findings) if not item)
-        return "".join(self.findings[last:])
-
-    def operate(self, line: bytes) -> None:
-        self.process.stdin.write(f"{line}\n")
-        self.process.stdin.flush()
-
-    def ended(self) -> object:
-        """Waits until it has ended; its status."""
-        self.findings.append(self.process.communicate(timeout=PATIENCE)[0] or "-")
-        return self.process.returncode
-
-    def stop(self) -> object:
-        self.process.send_signal(signal.SIGTERM)
-        return self.ended()
-
-    def program(self) -> object:
-        """The id of the program that it runs, or None."""
-        found = subprocess.run(
-            ["pgrep", "-P", str(self.process.pid), "-f", " vm370 "],
-            capture_output=True,
-            text=True,
-        ).stdout.split()
-        return int(found[0]) if found else None
-
-    def kill(self, is_all: bool = False) -> None:
-        """Kills it as a host does that fails, and with it the program."""
-        child = self.program() if is_all else None
-        self.process.kill()
-        if child:
-            with contextlib.suppress(ProcessLookupError):
-                os.kill(child, signal.SIGKILL)
-        self.process.communicate()
-
-    def session(self) -> str:
-        """The name of the session that is under way."""
-        with open(self.record) as file:
-            begun = re.search(r"^\* BEGUN (\S+) (\S+) UTC$", file.read(), re.M)
-        return f"{begun[1]}-{begun[2].replace(':', '')}"
-
-
-class Person:
-    """Somebody at a terminal, by a socket or an address."""
-
-    def __init__(self, where: object) -> None:
-        self.where = where
-        self.lines = []
-
-    async def come(self) -> object:
-        if isinstance(self.where, tuple):
-            self.reader, self.writer = await asyncio.open_connection(*self.where)
-        else:
-            self.reader, self.writer = await asyncio.open_unix_connection(self.where)
-        return self
-
-    async def line(self) -> None:
-        """The next line that is shown, or None at the end."""
-        data = await asyncio.wait_for(self.reader.readline(), PATIENCE)
-        if not data:
-            return None
-        self.lines.append(data.decode("latin-1").rstrip("\r\n"))
-        return self.lines[-1]
-
-    async def until(self, *texts: object) -> object:
-        """The next line that is one of these; all that came until then are kept."""
-        while (line := await self.line()) not in texts:
-            if line is None:
-                raise ConnectionError(f"ended before {texts}: {self.lines[-5:]}")
-        return line
-
-    def type(self, *lines: object) -> None:
-        self.writer.write("".join(f"{line}\r\n" for line in lines).encode("latin-1"))
-
-    async def logon(self, name: str, password: str) -> object:
-        """Logs on; what is answered."""
-        self.type(f"LOGON {name} {password}")
-        await self.until(BANNER)
-        return await self.line()
-
-    async def rest(self) -> object:
-        """All lines until the connection ends."""
-        with contextlib.suppress(ConnectionError):
-            while await self.line() is not None:
-                pass
-        return self.lines
-
-    def go(self) -> None:
-        """Goes without a word."""
-        self.writer.transport.abort()
-
-
-async def until_so(holds: object) -> None:
-    """Waits until something holds, with patience."""
-    until = time.monotonic() + PATIENCE
-    while not holds() and time.monotonic() < until:
-        await asyncio.sleep(0.05)
-
-
-async def person(where: object) -> object:
-    return await Person(where).come()
-
-
-def sizes_of(record: object) -> list:
-    """The words for the frames and slots of a recording."""
-    with open(record) as file:
-        return (
-            re.search(r"^\* SIZES (\d+) (\d+)$", file.read(), re.M)
-            .expand(r"--frames \1 --slots \2")
-            .split()
-        )
-
-
-def replayed(program: str, directory: str, record: object, volumes: tuple = ()) -> tuple:
-    """What the program itself makes of a recording: what each user was shown, and all of it."""
-    words = [program, "vm370", *sizes_of(record), "--", directory, record, *volumes]
-    shown, is_over = {}, False
-    with tempfile.TemporaryFile() as errors, subprocess.Popen(
-        words, stdout=subprocess.PIPE, stderr=errors
-    ) as run_again:
-        for line in reported_lines(run_again.stdout):
-            is_over = is_over or line.startswith(b"== ")
-            name, colon, text = line.decode("latin-1").partition(": ")
-            if colon and not is_over:
-                # a guest that prints for ever prints the same lines: each is kept once
-                shown.setdefault(name, []).append(sys.intern(text))
-        status = run_again.wait()
-        errors.seek(0)
-        done = subprocess.CompletedProcess(words, status, stderr=errors.read())
-    return done, shown
-
-
-def reported_lines(stream: object) -> Iterator:
-    """The lines of a transcript but for those that say how turns ended, of which minutes of computing have a billion."""
-    left = b""
-    while data := stream.read1(1 << 16):
-        whole, _, left = (left + data).rpartition(b"\n")
-        if b": " in whole or b"== " in whole:
-            yield from (part for part in whole.split(b"\n") if not part.startswith(b"= "))
-
-
-run = asyncio.run
-
-
-# --- a stand-in for the program, which does a few commands ---
-
-
-class StandIn:
-    """Takes parts of a script as the program does, for users who type LOGON, LOGOFF, #CP, BEGIN, STORE, DISPLAY of a register,
-    MSG, CLOSE, and four that no program has: PRINT prints a file of a line, LIST one of so many, FILL adds so many to an open one, and DIE
-    kills the program.
-    """
-
-    def __init__(self, directory: str, has_slices: bool) -> None:
-        self.has_slices = has_slices
-        with open(directory) as file:
-            self.users = {
-                item.split()[1]: {"mode": "OFF", "G1": 0, "open": 0}
-                for item in file
-                if item.startswith("USER ")
-            }
-        self.files = []
-        self.findings = []
-
-    def say(self, name: str, text: str) -> None:
-        self.findings.append(f"{name}: {text}")
-
-    def part(self, script: bytes) -> list[str]:
-        """What is reported of a part, with or without the lines of slices."""
-        before = {name: item["mode"] for name, item in self.users.items()}
-        self.findings, self.closed, self.is_idle = [], [], False
-        lines = script.decode("latin-1").split("\n")[:-1]
-        while lines:
-            word, _, rest = lines.pop(0).partition(" ")
-            if word == "LINE":
-                name, _, text = rest.partition(" ")
-                self.line(name, self.users[name], text)
-            elif word == "DECK":
-                name, count = rest.split()
-                del lines[: int(count)]
-            elif word == "AUTO":
-                self.auto(int(rest))
-            elif word not in ("", "TICK", "RUN", "SERVE") and not word.startswith("*"):
-                return None
-        self.findings += self.closed
-        for name, entry in self.users.items():
-            self.findings += [f"> {state} {name}" for state in became(before[name], entry["mode"])]
-        return self.findings + ["> IDLE"] * self.is_idle
-
-    def auto(self, turns: int) -> None:
-        running = [name for name, item in self.users.items() if item["mode"] == "RUNS"]
-        for entry in running:
-            self.users[entry]["G1"] += turns
-        if self.has_slices:
-            self.findings += [f"= {item} {100 * turns} COUNT" for item in running]
-        self.is_idle = not running
-
-    def line(self, name: str, user: dict[str, object], text: str) -> None:
-        words = text.split()
-        if text == "#CP":
-            user["mode"] = "ON" if user["mode"] == "RUNS" else user["mode"]
-            return
-        words = words[1:] if words[:1] == ["#CP"] else words
-        if user["mode"] == "OFF":
-            user["mode"] = "ON" if words == ["LOGON"] else "OFF"
-            self.say(name, "LOGON OK" if words == ["LOGON"] else "NOT LOGGED ON")
-        elif words == ["LOGOFF"]:
-            user.update({"mode": "OFF", "G1": 0, "open": 0})
-            self.say(name, "LOGOFF OK")
-        elif words[:1] == ["BEGIN"]:
-            user["mode"] = "RUNS"
-        elif words[:1] == ["STORE"]:
-            user.update({words[1]: int(words[2], 16)})
-            self.say(name, "STORED")
-        elif words[:1] == ["DISPLAY"]:
-            self.say(name, f"GPR {words[1][1:]} = {user.get(words[1], 0):08X}")
-        elif words[:1] == ["MSG"] and words[1] in self.users:
-            self.say(name, "SENT")
-            self.say(words[1], f"MSG FROM {name}: {text.split(words[1] + ' ')[1]}")
-        elif words[:1] == ["PRINT"]:
-            self.files.append(
-                [f"== PRT {len(self.files) + 1:04} {name}", f"09 {' '.join(words[1:])}"]
-            )
-            self.closed += [f"> {self.files[-1][0]}", f"> |{self.files[-1][1]}"]
-        elif words[:1] == ["FILL"]:
-            user["open"] += int(words[1])
-        elif words[:1] == ["CLOSE"]:
-            user["open"] *= words[1] != "00E"
-            self.say(name, "NO FILE")
-        elif words == ["DIE"]:
-            os.kill(os.getpid(), signal.SIGKILL)
-        elif words[:1] == ["LIST"]:
-            self.files.append([f"== PRT {len(self.files) + 1:04} {name}"])
-            self.closed += [f"> {self.files[-1][0]}", *[f"> |09 {'A' * 60}"] * int(words[1])]
-        elif words:
-            self.say(name, "UNKNOWN COMMAND")
-
-    def last_lines(self) -> list[str]:
-        return [line for file in self.files for line in file]
-
-    def save(self) -> None:
-        """Answers SAVE."""
-        state = json.dumps([self.users, self.files]).encode()
-        sys.stdout.buffer.write(b"> STATE %d\n%s> DONE\n" % (len(state), state))
-        sys.stdout.flush()
-
-    def holds(self) -> None:
-        """Answers HOLDS."""
-        lines = [f"> HOLDS {name} 0 {user['open']}" for name, user in self.users.items()]
-        print("\n".join([*lines, "> DONE"]), flush=True)
-
-    def restore(self) -> None:
-        """Takes the bytes of a state, or has no memory for it while there is the file that PEOPLE_NO_MEMORY names."""
-        size = int(sys.stdin.buffer.readline())
-        if os.path.exists(os.environ.get("PEOPLE_NO_MEMORY", "")):
-            sys.stderr.write("fault: memory Memory\n")
-            sys.exit(4)
-        try:
-            self.users, self.files = json.loads(sys.stdin.buffer.read(size))
-        except ValueError:
-            sys.exit("fault: state Refused")
-        print("> DONE", flush=True)
-
-
-def became(before: str, now: str) -> list[str]:
-    """The states that are reported of a user."""
-    findings = ["STOPS"] if before == "RUNS" != now else []
-    findings += ["ON"] if before == "OFF" != now else []
-    findings += ["RUNS"] if now == "RUNS" != before else []
-    return findings + (["OFF"] if now == "OFF" != before else [])
-
-
-def stand_in(words: list[str]) -> None:
-    """Plays the program: part by part with --follow, else a whole script."""
-    paths = words[words.index("--") + 1 :]
-    program = StandIn(paths[0], "--terminals" not in words)
-    if "--follow" not in words:
-        with open(paths[1], "rb") as file:
-            findings = program.part(file.read())
-        lines = [item for item in findings if not item.startswith("> ")] + program.last_lines()
-        sys.stdout.write("".join(f"{line}\n" for line in lines))
-        return
-    asked = {b"SAVE\n": program.save, b"STATE\n": program.restore, b"HOLDS\n": program.holds}
-    while (size := sys.stdin.buffer.readline()) not in (b"", b"END\n"):
-        if size in asked:
-            asked[size]()
-            continue
-        time.sleep(float(os.environ.get("PEOPLE_SLOW", "0")))
-        findings = program.part(sys.stdin.buffer.read(int(size)))
-        findings = ["> REFUSED 1"] if findings is None else [*findings, "> DONE"]
-        sys.stdout.write("\n".join(findings) + "\n")
-        sys.stdout.flush()
-    if size == b"END\n" and os.environ.get("PEOPLE_SAVES") == "fails":
-        sys.stderr.write("fault: file Device 1\n")
-        sys.exit(3)
-    if size == b"END\n" and "--save" in words:
-        for path in paths[1:]:
-            with open(f"{path}.new", "x") as file:
-                file.write("SAVED\n")
-            os.replace(f"{path}.new", path)
-            if os.environ.get("PEOPLE_SAVES") == "slowly":
-                time.sleep(5)
 
 
 # --- tables of what needs no program ---
@@ -636,18 +287,6 @@ def try_no_room(check: Callable) -> None:
 
 
 # --- what is tried in seconds, over the stand-in or the program itself ---
-
-DIRECTORY = "".join(
-    f"USER {name} {password} 64K\nCONSOLE 009 3215\nSPOOL 00C READER\nSPOOL 00D PUNCH\nSPOOL 00E PRINTER\n"
-    for name, password in (("ALICE", "WONDER"), ("BOB", "BUILDER"), ("OPER", "SECRET"))
-)
-
-
-def make_site(command: str, folder: str, *words: object) -> object:
-    os.makedirs(folder)
-    with open(f"{folder}/directory", "w") as file:
-        file.write(DIRECTORY)
-    return Site(command, folder, f"{folder}/directory", *words)
 
 
 def try_logging_on(check: Callable, site: object) -> None:
@@ -971,16 +610,6 @@ def try_computing(check: Callable, site: object) -> None:
     check("unless it is asked for", site.ended() == 0, *site.findings)
 
 
-def processor_ticks(site: object) -> object:
-    """The processor time that the command and its program took until now, in ticks of the host."""
-    total = 0
-    for process in (site.process.pid, site.program()):
-        with open(f"/proc/{process}/stat") as file:
-            fields = file.read().rpartition(")")[2].split()
-        total += int(fields[11]) + int(fields[12])
-    return total
-
-
 async def idle_ticks(site: object) -> object:
     """The processor time that they take in 1.5 seconds; a loaded host may need another try until all that was typed is done."""
     for _ in range(3):
@@ -991,17 +620,6 @@ async def idle_ticks(site: object) -> object:
         if took <= 1:
             break
     return took
-
-
-def memory_of(process: object) -> int:
-    """The most memory that a process had, in kilobytes."""
-    with open(f"/proc/{process}/status") as file:
-        return int(re.search(r"VmHWM:\s+(\d+)", file.read())[1])
-
-
-# a guest that prints a line: SIO, TIO until that is done, and a disabled wait
-PRINTS = ("STORE 48 00000800", "STORE 800 0900084020000005", "STORE 840 C8C5D3D3D6", "STORE 200 0002000000000000",
-          "STORE 100 9C00000E9D00000E4770010482000200", "BEGIN 100")  # fmt: skip
 
 
 def try_files(check: Callable, site: object, prints: object) -> object:
@@ -1129,24 +747,9 @@ def try_report(check: Callable, repository: str, site: object, looks: object) ->
     check("or was moved", done.returncode == 0, done.stderr)
 
 
-def names_in(folder: str) -> list:
-    return sorted(os.listdir(folder)) if os.path.exists(folder) else []
-
-
-def image_of(serial: str, version: object) -> object:
-    """A volume of one cylinder without a record."""
-    whole = (
-        b"CKD%d" % version
-        + serial.ljust(6).encode()
-        + b"\0\1"
-        + b"".join(bytes([0, 0, 0, 0, head, 0]) for head in range(19))
-    )
-    return whole + (bytes(4) if version == 2 else b"")
-
-
 def try_ending(check: Callable, site: object) -> None:
     """What becomes of volumes: a suspension saves none, an end saves all, and so does a start after a crash in an end's midst."""
-    old = [image_of(name, 1) for name in ("V1", "V2")]
+    old = [blank_image(name, 1) for name in ("V1", "V2")]
     volumes = [f"{site.folder}/{name}" for name in ("one", "two")]
     site.paths += volumes
 
@@ -1216,35 +819,6 @@ def try_ending(check: Callable, site: object) -> None:
 def without_sums(recording: object) -> object:
     """A recording as it was made before stamps had sums."""
     return re.sub(rb"(?m)^(\* [0-9: -]{19} UTC) [0-9a-f]{8}$", rb"\1", recording)
-
-
-async def logged_on(site: object, name: str, password: str) -> object:
-    """Logs on, and leaves."""
-    one = await person(f"{site.folder}/socket")
-    answer = await one.logon(name, password)
-    one.go()
-    return answer
-
-
-def read(path: str) -> object:
-    with open(path, "rb") as file:
-        return file.read()
-
-
-def write(path: str, data: bytes) -> None:
-    with open(path, "wb") as file:
-        file.write(data)
-
-
-def write_text(path: str, text: str) -> None:
-    write(path, text.encode())
-
-
-async def on(site: object, name: str = "ALICE", password: str = "WONDER") -> object:
-    """Somebody who has logged on."""
-    one = await person(f"{site.folder}/socket")
-    await one.logon(name, password)
-    return one
 
 
 def try_all(check: Callable, repository: str, folder: str, is_stand_in: object) -> None:

@@ -10,19 +10,9 @@ import socket
 import subprocess
 import time
 
-from tests.installation.basics import (
-    kept_of,
-    logged_on,
-    make_site,
-    names_in,
-    on,
-    person,
-    read,
-    replayed,
-    run,
-    until_so,
-    write_text as write,
-)
+from tests.installation.basics import kept_of
+from tests.lib.files import names_in, read, write
+from tests.lib.sites import logged_on, make_site, on, person, replayed, run, until_so
 
 
 # --- users' files ---

@@ -9,9 +9,10 @@ import json
 import os
 import re
 
-from tests.installation.basics import Site, make_site, on, read, run
 from tests.installation.operators import operator
-from tests.installation.strangers import free_port
+from tests.lib.files import read
+from tests.lib.host import free_port
+from tests.lib.sites import Site, make_site, on, run
 
 LINE = re.compile(r'gathjumli_[a-z_]+(\{(user|le)="[^"]+"\})? -?[0-9.]+(e-?[0-9]+)?')
 

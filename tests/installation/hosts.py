@@ -18,11 +18,12 @@ TOP = os.path.dirname(os.path.dirname(os.path.dirname(os.path.realpath(__file__)
 sys.path[:0] = [TOP, f"{TOP}/bin/lib"]
 from gathjumli.cli import last, number, read_arguments
 from gathjumli.libraries import STORE, need
-from tests.installation.basics import sizes_of
+from tests.installation import servers
 from tests.installation.store_cases import Place
 from tests.installation.store_people import Host, Typists, haproxy_block, kill_all
 from tests.installation.town import lay_out
-from tests.installation import servers
+from tests.lib.host import free_port
+from tests.lib.sites import sizes_of
 
 HOSTS = ["127.0.1.1", "127.0.1.2", "127.0.1.3"]
 
@@ -32,7 +33,7 @@ class Plant:
 
     def __init__(self, place: Any, turn: int, count: int) -> None:
         self.place, self.count = place, count
-        self.door, port = servers.free_port(), servers.free_port()
+        self.door, port = free_port(), free_port()
         people = "".join(
             f"USER P{item:02} SECRET 16K\nCONSOLE 009 3215\n" for item in range(1, count + 1)
         )

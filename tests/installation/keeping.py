@@ -8,20 +8,11 @@ import os
 import subprocess
 import time
 
-from tests.installation.basics import (
-    Site,
-    image_of,
-    make_site,
-    names_in,
-    on,
-    read,
-    run,
-    until_so,
-    write,
-    write_text,
-)
 from tests.installation.operators import operator
 from tests.installation.states import shown, stored, value_in
+from tests.lib.files import names_in, read, write
+from tests.lib.images import blank_image
+from tests.lib.sites import Site, make_site, on, run, until_so
 
 DAY = 24 * 3600
 BACKUPS = 5
@@ -47,9 +38,9 @@ def restored(command: str, folder: str, backup: str) -> Site:
 def try_backup(check: Callable, site: Site, folder: str) -> None:
     """Each backup that is made while somebody types goes on elsewhere with all that was shown before it, and nothing half done."""
     volume = f"{site.folder}/volume"
-    write(volume, image_of("V1", 1))
+    write(volume, blank_image("V1", 1))
     site.paths.append(volume)
-    write_text(f"{site.record}.rules", "quota 99\n")
+    write(f"{site.record}.rules", "quota 99\n")
     site.online("--operate", f"{site.folder}/operator", "--state-every", "1")
     backups = [f"{site.folder}/backup {place}" for place in range(BACKUPS)]
     seen: list[tuple[int, int]] = []
@@ -94,7 +85,7 @@ def try_backup(check: Callable, site: Site, folder: str) -> None:
 def try_backup_after_end(check: Callable, site: Site, folder: str) -> None:
     """A backup of a session that goes on from another one has its machines; one that is not done when the session stops is none."""
     volume = f"{site.folder}/volume"
-    write(volume, image_of("V1", 1))
+    write(volume, blank_image("V1", 1))
     site.paths.append(volume)
     operate = ["--operate", f"{site.folder}/operator"]
     site.online(*operate)
@@ -181,17 +172,17 @@ def try_keep(check: Callable, site: Site) -> None:
     others = [f"{site.record}.2026-01-01-000000", f"{site.record}.left-2026-01-01-000000"]
     for path in others:
         os.makedirs(path)
-        write_text(f"{path}/mine", "MINE\n")
+        write(f"{path}/mine", "MINE\n")
         make_old(f"{path}/mine")
-    write_text(f"{sessions[1]}/mine", "MINE\n")
+    write(f"{sessions[1]}/mine", "MINE\n")
     make_old(f"{sessions[1]}/mine")
-    write_text(journal, "2026-01-01 00:00:00 ALICE logs on\n" + read(journal).decode())
+    write(journal, "2026-01-01 00:00:00 ALICE logs on\n" + read(journal).decode())
     site.online(*words)
     time.sleep(0.5)
     check(
         "without a rule all stays", os.path.exists(old) and "2026-01-01" in read(journal).decode()
     )
-    write_text(f"{site.record}.rules", "keep 2 days\n")
+    write(f"{site.record}.rules", "keep 2 days\n")
     check("a reload", operator(site, "reload").returncode == 0)
     told = "older than 2 days, and removed: 1 ended recording, 1 printout, 1 journal"
     check("it says what goes", site.await_message(told), *site.findings)
@@ -234,7 +225,7 @@ async def decks_removed(check: Callable, folder: str) -> None:
     os.makedirs(secret)
     os.makedirs(bob)
     for path in (f"{alice}/waits", f"{alice}/done/a", f"{alice}/refused/b", f"{secret}/card"):
-        write_text(path, "CARD\n")
+        write(path, "CARD\n")
     os.symlink(secret, f"{bob}/done")
     os.symlink(f"{secret}/card", f"{alice}/done/link")
     retention = Retention(decks)

@@ -8,9 +8,10 @@ import shutil
 import subprocess
 import time
 
-from tests.installation.basics import Site, logged_on, make_site, read, run, write_text
 from tests.installation.operators import operator
 from tests.installation.states import stored
+from tests.lib.files import read, write
+from tests.lib.sites import Site, logged_on, make_site, run
 
 PATIENCE = 30
 # what makes maps says which script and state it is given, or takes for ever
@@ -39,7 +40,7 @@ def program_of(site: Site) -> str:
     """The program, which is built, and of which a copy is kept."""
     repository = os.path.dirname(os.path.dirname(site.command))
     path = f"{repository}/crates/gathjumli_cli/out/gathjumli_cli"
-    write_text(f"{site.folder}/script", "")
+    write(f"{site.folder}/script", "")
     words = [f"{repository}/bin/framemap", "--", *site.paths, f"{site.folder}/script"]
     subprocess.run(words, capture_output=True, stdin=subprocess.DEVNULL)
     shutil.copy(path, f"{path}.kept")
@@ -49,7 +50,7 @@ def program_of(site: Site) -> str:
 def replace(path: str, lines: str) -> None:
     """Has these lines of the shell make maps of frames; the copy does all else."""
     os.unlink(path)
-    write_text(path, f'#!/bin/sh\n[ "$1" = framemap ] || exec "{path}.kept" "$@"\n{lines}')
+    write(path, f'#!/bin/sh\n[ "$1" = framemap ] || exec "{path}.kept" "$@"\n{lines}')
     os.chmod(path, 0o755)
 
 

@@ -16,7 +16,6 @@ import re
 import shutil
 import signal
 import socket
-import statistics
 import subprocess
 import sys
 import tempfile
@@ -27,25 +26,19 @@ sys.dont_write_bytecode = True
 TOP = os.path.dirname(os.path.dirname(os.path.dirname(os.path.realpath(__file__))))
 sys.path[:0] = [TOP, f"{TOP}/bin/lib"]
 
-from tests.installation.basics import (
-    BANNER,
-    Person,
-    image_of,
-    person,
-    processor_ticks,
-    read,
-    replayed,
-    sizes_of,
-    write,
-)
-from tests.installation.town import COUNTS, Town
 from gathjumli.cli import last, number, read_arguments
 from gathjumli.recording import entries_of
+from tests.installation.town import COUNTS, Town
+from tests.lib.counting import Counts
+from tests.lib.figures import hundredths, notify
+from tests.lib.files import read, write
+from tests.lib.images import blank_image
+from tests.lib.places import PROGRAM
+from tests.lib.sites import BANNER, Person, person, processor_ticks, replayed, sizes_of
 
 if TYPE_CHECKING:
     from tests.lib.desk import Account, Place
 
-PROGRAM = f"{TOP}/crates/gathjumli_cli/out/gathjumli_cli"
 # adds one to register 1 for ever
 COMPUTES = "STORE 100 4111000147F00100"
 # starts a program at the console, waits until that is done, and so on
@@ -54,25 +47,8 @@ PRINTS_FOR_EVER = ["STORE 48 00000800", "STORE 800 0900084020000078", "STORE 100
 # the time of the lines that follow, as one who appears back sees it
 TIME = re.compile(r"-- [0-9: -]{16} UTC")
 
-passed = failed = 0
-
-
-def check(what: str, holds: object, *findings: object) -> None:
-    """Counts a test, and says what is wrong where it does not hold."""
-    global passed, failed
-    passed, failed = (passed + 1, failed) if holds else (passed, failed + 1)
-    if not holds:
-        print(f"FAILED: {what}", *findings, sep="\n    ", flush=True)
-
-
-def notify(text: str) -> None:
-    print(text, flush=True)
-
-
-def hundredths(seconds: object) -> str:
-    """The median, the 99th hundredth and the worst, in milliseconds."""
-    found = sorted(second * 1000 for second in seconds)
-    return f"median {statistics.median(found):.1f} ms, 99th {found[int(len(found) * 0.99)]:.1f} ms, worst {found[-1]:.1f} ms"
+counted = Counts()
+check = counted.check
 
 
 def replays(town: object) -> tuple:
@@ -507,7 +483,7 @@ def part_ends(folder: str, options: object) -> None:
     """Kills in the midst of an end, of which half keep the machines: after the next start all volumes are as they were and the
     session goes on, or all are saved and the recording is set aside. Machines that are kept are there in both cases.
     """
-    old = [image_of(name, 1) for name in ("V1", "V2", "V3")]
+    old = [blank_image(name, 1) for name in ("V1", "V2", "V3")]
     chance, saved, kept = random.Random(5), 0, 0
     town = Town(f"{folder}/ends", 1)
     town.paths += [f"{folder}/ends/{number}" for number in range(len(old))]
@@ -890,8 +866,7 @@ def main() -> None:
             begun = time.monotonic()
             PARTS[name](folder, options)
             notify(f"({name} took {time.monotonic() - begun:.0f} s)")
-    print(f"{passed} passed, {failed} failed")
-    sys.exit(failed != 0)
+    sys.exit(counted.report())
 
 
 main()

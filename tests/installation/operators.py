@@ -11,18 +11,9 @@ import shutil
 import subprocess
 import termios
 
-from tests.installation.basics import (
-    PATIENCE,
-    logged_on,
-    make_site,
-    names_in,
-    on,
-    person,
-    read,
-    run,
-    until_so,
-    write_text as write,
-)
+from tests.lib.files import names_in, read, write
+from tests.lib.places import TOP
+from tests.lib.sites import PATIENCE, logged_on, make_site, on, person, run, until_so
 
 
 def operator(site: object, *words: object, given: object = None) -> object:
@@ -124,8 +115,7 @@ def try_unit(check: Callable, folder: str) -> None:
     if not shutil.which("systemd-analyze"):
         print("no systemd-analyze: the unit was not verified")
         return
-    top = os.path.dirname(os.path.dirname(os.path.dirname(os.path.realpath(__file__))))
-    unit = read(f"{top}/docs/installation.service").decode().replace("/opt/gathjumli", top)
+    unit = read(f"{TOP}/docs/installation.service").decode().replace("/opt/gathjumli", TOP)
     write(f"{folder}/installation.service", unit)
     done = subprocess.run(
         ["systemd-analyze", "verify", f"{folder}/installation.service"],

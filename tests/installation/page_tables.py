@@ -14,27 +14,28 @@ import sys
 import time
 
 from gathjumli import libraries
+from gathjumli.cli import Failure, UsageError
 from gathjumli.decks import Folders
-from gathjumli.users import User
-from tests.installation.basics import BANNER, PATIENCE, run, write_text as write
 from gathjumli.logon import Passwords
+from gathjumli.logon_server import LogonServer, MOST_UNREAD
 from gathjumli.minidisks import Minidisks
-from gathjumli.web_operator import OperatorPage, OperatorPages
 from gathjumli.report_line import PageLine
-from gathjumli.web_requests import HEADERS, POLICY, answer_to, read_files
+from gathjumli.spooling import WAITS, WRITTEN
+from gathjumli.tls import tls_of
+from gathjumli.users import User
+from gathjumli.web_operator import OperatorPage, OperatorPages
 from gathjumli.web_pages import (
-    MESSAGES_A_SECOND,
     MESSAGES_AT_ONCE,
+    MESSAGES_A_SECOND,
     MOST_DECK,
-    SECONDS_TO_COME_BACK,
     Outbox,
     Pages,
     Rate,
+    SECONDS_TO_COME_BACK,
 )
-from gathjumli.cli import Failure, UsageError
-from gathjumli.spooling import WAITS, WRITTEN
-from gathjumli.logon_server import MOST_UNREAD, LogonServer
-from gathjumli.tls import tls_of
+from gathjumli.web_requests import HEADERS, POLICY, answer_to, read_files
+from tests.lib.files import write
+from tests.lib.sites import BANNER, PATIENCE, run
 
 if TYPE_CHECKING:
     from tests.lib.desk import Account

@@ -12,9 +12,11 @@ import socket
 import ssl
 import subprocess
 
-from tests.installation.basics import BANNER, Person, Site, make_site, run, write_text
 from tests.installation.operators import operator
-from tests.installation.strangers import free_port, make_certificate
+from tests.installation.strangers import make_certificate
+from tests.lib.files import write
+from tests.lib.host import free_port
+from tests.lib.sites import BANNER, Person, Site, make_site, run
 
 # the other ends of connections, all of this host
 PROXY, GUESSER, OTHER = "127.0.0.3", "127.0.0.4", "127.0.0.5"
@@ -250,7 +252,7 @@ def try_guesser(check: Callable, site: Site) -> None:
     check("the operator is told", is_told, *site.findings)
     status = operator(site, "status").stdout
     check("and sees it later", f"refused for a while: {GUESSER}" in status, status)
-    write_text(f"{site.record}.rules", f"trust {GUESSER}\n")
+    write(f"{site.record}.rules", f"trust {GUESSER}\n")
     check("a reload", operator(site, "reload").returncode == 0)
     check("a trusted one comes", run(on_from(GUESSER, port)) == "RECONNECTED", *site.findings)
     check("it is suspended", site.stop() == 0)

@@ -7,9 +7,11 @@ import signal
 import ssl
 import subprocess
 
-from tests.installation.basics import DIRECTORY, Site, logged_on, make_site, read, run, write_text
 from tests.installation.operators import operator
-from tests.installation.strangers import free_port, make_certificate
+from tests.installation.strangers import make_certificate
+from tests.lib.files import read, write
+from tests.lib.host import free_port
+from tests.lib.sites import DIRECTORY, Site, logged_on, make_site, run
 
 REFUSED = "LOGON REFUSED"
 FORMS = "a line is one of quota, memory, lock, deny, allow, trust, keep, and a word, and after keep N the word days"
@@ -54,7 +56,7 @@ def try_passwords_file(check: Callable, site: Site) -> None:
     site.online("--passwords", path)
     check("a password of the file", answer(site, "FIRST") == "LOGON OK", *site.findings)
     whole = read(path).decode()
-    write_text(path, f"{whole}BOB garbage\n")
+    write(path, f"{whole}BOB garbage\n")
     check("a broken line refuses nobody", answer(site, "FIRST") == "RECONNECTED", *site.findings)
     wanted = (
         f"{path}: line 2 is no name with a salt and a sum; the passwords count that were read last"
@@ -73,14 +75,14 @@ def try_reload(check: Callable, site: Site) -> None:
     words = ["--operate", f"{site.folder}/operator", "--journal", journal]
     site.online(*words)
     os.rename(journal, f"{journal}.1")
-    write_text(directory, DIRECTORY.replace("WONDER", "ANOTHER"))
+    write(directory, DIRECTORY.replace("WONDER", "ANOTHER"))
     check("before a reload", answer(site, "ANOTHER") == REFUSED)
     done = operator(site, "reload")
     check("a reload", done.returncode == 0 and "are read again" in done.stdout, done.stdout)
     check("a password of the directory", answer(site, "ANOTHER") == "LOGON OK", *site.findings)
     check("the old one is wrong", answer(site, "WONDER") == REFUSED, *site.findings)
     check("the journal goes on in a new file", b"ALICE logs on" in read(journal))
-    write_text(f"{site.record}.rules", "# at night\nlock BOB\nlock BEN\nquota 9\n")
+    write(f"{site.record}.rules", "# at night\nlock BOB\nlock BEN\nquota 9\n")
     os.rename(journal, f"{journal}.2")
     site.process.send_signal(signal.SIGHUP)
     check("a SIGHUP does so", site.await_message("are read again"), *site.findings)
@@ -90,8 +92,8 @@ def try_reload(check: Callable, site: Site) -> None:
     told = operator(site, "users").stdout
     check("the operator sees who is locked", "BOB is locked\n" in told, told)
     check("the journal after a SIGHUP", os.path.exists(journal))
-    write_text(directory, DIRECTORY.replace("USER BOB", "USER BEN"))
-    write_text(f"{site.record}.rules", "quota many\n")
+    write(directory, DIRECTORY.replace("USER BOB", "USER BEN"))
+    write(f"{site.record}.rules", "quota many\n")
     done = operator(site, "reload")
     wanted = (
         "passwords not read again",
@@ -102,7 +104,7 @@ def try_reload(check: Callable, site: Site) -> None:
     check("what cannot be read stays", holds, done.stdout, done.stderr)
     check("as does the lock", answer(site, "BUILDER", "BOB") == REFUSED)
     check("and his wrong passwords are wrong", answer(site, "WONDER", "BOB") == REFUSED)
-    write_text(directory, DIRECTORY)
+    write(directory, DIRECTORY)
     os.unlink(f"{site.record}.rules")
     check("without rules", operator(site, "reload").returncode == 0)
     check("he is let in", answer(site, "BUILDER", "BOB") == "LOGON OK", *site.findings)
@@ -133,7 +135,7 @@ def try_new_certificate(check: Callable, site: Site) -> None:
     check("a reload", operator(site, "reload").returncode == 0)
     second = certificate_at(port)
     check("the new certificate", second.strip() == read(path).decode().strip() != first)
-    write_text(path, first)
+    write(path, first)
     done = operator(site, "reload")
     holds = done.returncode == 1 and "certificate not read again" in done.stdout
     check("one without its key", holds and certificate_at(port) == second, done.stdout)
@@ -147,13 +149,13 @@ def try_rules(check: Callable, folder: str) -> None:
 
     path = f"{folder}/rules"
     for line, wanted in WRONG_RULES.items():
-        write_text(path, f"quota 7\n\n{line}\n")
+        write(path, f"quota 7\n\n{line}\n")
         try:
             findings = str(read_rules(path))
         except Failure as failure:
             findings = failure.lines[0]
         check(f"a rule that is none: {line}", findings == f"{path}, line 3: {wanted}", findings)
-    write_text(path, "deny 10.0.0.0/8 # others\nallow 10.0.0.0/7\nallow 2001:db8::/32\n")
+    write(path, "deny 10.0.0.0/8 # others\nallow 10.0.0.0/7\nallow 2001:db8::/32\n")
     rules = read_rules(path)
     for address, wanted in ADDRESSES.items():
         check(f"rules for {address!r}", rules.lets_in(address) == wanted)

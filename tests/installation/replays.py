@@ -5,9 +5,10 @@ from collections.abc import Callable
 import os
 import time
 
-from tests.installation.basics import Site, make_site, names_in, read, run, write
 from tests.installation.operators import operator
 from tests.installation.states import begun_with, shown, state_names, stored, value_in
+from tests.lib.files import names_in, read, write
+from tests.lib.sites import Site, make_site, run
 
 # lines of a recording that has no state
 LINES = 40000

@@ -4,8 +4,9 @@ from __future__ import annotations
 from collections.abc import Callable
 import os
 
-from tests.installation.basics import Site, make_site, names_in, on, read, run
 from tests.installation.operators import operator
+from tests.lib.files import names_in, read
+from tests.lib.sites import Site, make_site, on, run
 
 FIRST, SECOND, OTHER = "PRT0001-ALICE", "PRT0002-ALICE", "PRT0003-BOB"
 

@@ -14,22 +14,10 @@ import signal
 import subprocess
 import sys
 
-from tests.installation.basics import (
-    PRINTS,
-    Site,
-    image_of,
-    make_site,
-    names_in,
-    on,
-    read,
-    replayed,
-    run,
-    sizes_of,
-    until_so,
-    without_sums,
-    write,
-    write_text,
-)
+from tests.installation.basics import without_sums
+from tests.lib.files import names_in, read, write
+from tests.lib.images import blank_image
+from tests.lib.sites import PRINTS, Site, make_site, on, replayed, run, sizes_of, until_so
 
 Check = Callable[..., None]
 
@@ -139,7 +127,7 @@ def killed_site(command: str, folder: str, *words: str) -> Site:
     text = (
         f'#!/bin/sh\nexec "{sys.executable}" -B "{own}" --killed "$PEOPLE_STEP" "{command}" "$@"\n'
     )
-    write_text(site.command, text)
+    write(site.command, text)
     os.chmod(site.command, 0o755)
     os.environ["PEOPLE_STEP"] = ""
     return site
@@ -376,7 +364,7 @@ def try_no_memory(check: Check, site: Site) -> None:
     def ends(what: str, path: str) -> None:
         """A start without memory ends, and one with memory goes on from the state."""
         before = names_in(site.folder), read(path)
-        write_text(no_memory, "")
+        write(no_memory, "")
         site.start()
         holds = is_reported(path) and "fault: memory Memory" in site.since_start()
         check(f"{what}: the fault is reported", holds, *site.findings)
@@ -392,7 +380,7 @@ def try_no_memory(check: Check, site: Site) -> None:
         run(stored(site, value))
         check("it is suspended", site.stop() == 0, *site.findings)
     ends("no memory for the last state", last_state(site))
-    write_text(no_memory, "")
+    write(no_memory, "")
     os.kill(site.program(), signal.SIGKILL)
     run(typed_last(site))
     check("a program that is started again", is_reported(last_state(site)), *site.findings)
@@ -444,13 +432,13 @@ def has_begun_anew(site: Site) -> bool:
 def add_volume(site: Site) -> str:
     """Gives a site a volume."""
     site.paths.append(f"{site.folder}/volume")
-    write(site.paths[-1], image_of("V1", 1))
+    write(site.paths[-1], blank_image("V1", 1))
     return site.paths[-1]
 
 
 def try_kept_machines(check: Check, site: Site, program: str, has_frames: bool = False) -> None:
     """An end saves the volumes, and the next session goes on with all machines."""
-    volume, before = add_volume(site), image_of("V1", 1)
+    volume, before = add_volume(site), blank_image("V1", 1)
     site.online()
     run(stored(site, 5))
     site.operate("end")
@@ -511,7 +499,7 @@ def try_kept_files(
         # the second one stays open, and a deck waits
         opens = (("STORE PSW 00000000 00000100", "BEGIN"), stops)
         run(does((lines, stops), (close, "FILE 0001 CLOSED"), opens))
-        write_text(f"{decks}/ALICE/cards", "ONE\nTWO\n")
+        write(f"{decks}/ALICE/cards", "ONE\nTWO\n")
         run(until_so(lambda: names_in(f"{decks}/ALICE/done")))
     else:
         run(does(((*lines, "DISPLAY G1"), "GPR 1 = 00000000")))
@@ -614,7 +602,7 @@ def try_lost_beginning(check: Check, site: Site) -> None:
 
 def try_end_steps(check: Check, site: Site) -> None:
     """A kill between each two steps of an end loses nothing: it is before the end, or after it."""
-    volume, before = add_volume(site), image_of("V1", 1)
+    volume, before = add_volume(site), blank_image("V1", 1)
     for value, (what, step) in enumerate(END_STEPS.items(), 7):
         os.environ["PEOPLE_STEP"] = step
         site.online()
@@ -638,16 +626,16 @@ def try_changed_volume(check: Check, site: Site) -> None:
     volume = add_volume(site)
     site.online()
     run(stored(site, 4))
-    write(volume, image_of("V2", 1))
+    write(volume, blank_image("V2", 1))
     site.operate("end now")
     check("it ends", site.ended() == 0, *site.findings)
-    check("the volume stays", read(volume) == image_of("V2", 1))
+    check("the volume stays", read(volume) == blank_image("V2", 1))
     site.start()
     holds = site.await_message("or start with --without-machines") and site.ended() == 1
     check("the machines do not go on with it", holds and "another volume 1" in site.since_start())
     site.online("--without-machines")
     alice = run(person_on(site))
-    check("others do", alice == "LOGON OK" and read(volume) == image_of("V2", 1), alice)
+    check("others do", alice == "LOGON OK" and read(volume) == blank_image("V2", 1), alice)
     check("it is suspended", site.stop() == 0)
 
 
@@ -656,7 +644,7 @@ def try_mended_volume(check: Check, site: Site) -> None:
     volume = add_volume(site)
     site.online()
     run(stored(site, 4))
-    write(volume, image_of("V2", 1))
+    write(volume, blank_image("V2", 1))
     site.operate("end now")
     check("it ends", site.ended() == 0, *site.findings)
     own = next(
@@ -675,13 +663,13 @@ def try_mended_volume(check: Check, site: Site) -> None:
     site.online()
     check("with its own it goes on", value_in(run(shown(site))) == 4, *site.findings)
     site.kill(is_all=True)
-    write(volume, image_of("V3", 1))
+    write(volume, blank_image("V3", 1))
     status = site.start().ended()
     wanted = f"or move {site.record} away, and start with --without-machines"
     check("a session with machines", status == 1 and wanted in site.since_start(), *site.findings)
     os.rename(site.record, f"{site.folder}/away")
     site.online("--without-machines")
-    holds = run(person_on(site)) == "LOGON OK" and read(volume) == image_of("V3", 1)
+    holds = run(person_on(site)) == "LOGON OK" and read(volume) == blank_image("V3", 1)
     check("begins anew as is said", holds, *site.findings)
     check("it is suspended", site.stop() == 0)
 
@@ -717,7 +705,7 @@ def try_weights(check: Check, folder: str) -> None:
     from gathjumli.stores import FileStore
 
     os.makedirs(folder)
-    write_text(f"{folder}/directory", "USER A PW 8K\n")
+    write(f"{folder}/directory", "USER A PW 8K\n")
     recording = Recording(FileStore(f"{folder}/recording"))
     recording.begin(Base("program", "64 256", f"{folder}/directory", []))
     recording.add(b"LINE A LOGON\nLINE A BEGIN\n")
@@ -739,7 +727,7 @@ def long_recording(folder: str) -> str:
     from gathjumli.stores import FileStore
 
     os.makedirs(folder)
-    write_text(f"{folder}/directory", "USER A PW 8K\n")
+    write(f"{folder}/directory", "USER A PW 8K\n")
     recording = Recording(FileStore(f"{folder}/recording"))
     recording.begin(Base("program", "64 256", f"{folder}/directory", []))
     for number in range(1, 301):
@@ -801,7 +789,7 @@ def try_slow_states(check: Check, folder: str) -> None:
     from gathjumli.states import LastState, States
 
     os.makedirs(folder)
-    write_text(f"{folder}/directory", "USER A PW 8K\n")
+    write(f"{folder}/directory", "USER A PW 8K\n")
     recording = Recording(FileStore(f"{folder}/recording"))
     recording.begin(Base("program", "64 256", f"{folder}/directory", []))
     said: list[str] = []
@@ -826,9 +814,9 @@ def try_other_files(check: Check, site: Site) -> None:
     """Files of others that are called like states stay, and what cannot be removed keeps nobody from his machine."""
     others = ("recording.state-mine", "recording.state-7.copy")
     for name in others:
-        write_text(f"{site.folder}/{name}", "mine")
+        write(f"{site.folder}/{name}", "mine")
     os.makedirs(f"{site.record}.state-7")
-    write_text(f"{site.record}.state-8.new-abcdefgh", "of a kill")
+    write(f"{site.record}.state-8.new-abcdefgh", "of a kill")
     site.online()
     run(stored(site, 1))
     check("a folder called as a state is", site.stop() == 0, *site.findings)
@@ -864,7 +852,7 @@ def try_printouts(check: Check, site: Site) -> None:
         alice.go()
 
     site.online("--printouts", prints)
-    write_text(f"{prints}/{site.session()}", "in the way\n")
+    write(f"{prints}/{site.session()}", "in the way\n")
     run(prints_one())
     check("it waits", site.await_message("cannot be written"), *site.findings)
     check("no state is saved meanwhile", site.stop() == 0 and not state_names(site))

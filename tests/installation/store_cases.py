@@ -11,9 +11,9 @@ import subprocess
 import threading
 import time
 
-from tests.installation.basics import write_text
-from tests.installation.servers import Pair
 from tests.installation import store_people
+from tests.installation.servers import Pair
+from tests.lib.files import write
 
 Check = Callable[..., None]
 CUTS = 40
@@ -43,7 +43,7 @@ class Place:
         return done.stdout + done.stderr
 
     def create(self, directory: str = DIRECTORY) -> None:
-        write_text(f"{self.folder}/directory", directory)
+        write(f"{self.folder}/directory", directory)
         self.store("create", self.name, f"{self.folder}/directory")
 
     def engine(self, inner: str, is_standby: bool = False, **options: Any) -> Any:
@@ -276,7 +276,7 @@ def try_stale_engine(check: Check, place: Place) -> None:
     check("the next one has the higher epoch", new.epoch == stale.epoch + 1, stale.epoch, new.epoch)
     check("a line of a stale engine", refused(lambda: add(stale, b"STALE\n")))
     stale.is_lost = False
-    write_text(f"{place.folder}/a/recording.logmsg", "STALE\n")
+    write(f"{place.folder}/a/recording.logmsg", "STALE\n")
     check("a file of a stale engine", refused(lambda: stale.commits.do(
         lambda server, _: stale.send(server, f"{place.folder}/a/recording.logmsg"))))  # fmt: skip
     stale.is_lost = False

@@ -18,8 +18,11 @@ import threading
 import time
 import urllib.request
 
-from tests.installation.basics import Person, Site, image_of, run, write, write_text
-from tests.installation.servers import free_port
+from tests.lib.files import write
+from tests.lib.host import free_port
+from tests.lib.images import blank_image
+from tests.lib.places import TOP
+from tests.lib.sites import Person, Site, run
 
 Check = Callable[..., None]
 PEOPLE = 20
@@ -304,15 +307,15 @@ def try_ends(check: Check, place: Any) -> None:
     """A host is killed in each step of an end: the next one finishes it, and no line is lost."""
     import psycopg
 
-    write_text(
+    write(
         f"{place.folder}/users",
         "USER ALICE WONDER 64K\nCONSOLE 009 3215\nMDISK 191 3330 0 1 V1 W\n",
     )
-    write(f"{place.folder}/volume", image_of("V1", 1))
+    write(f"{place.folder}/volume", blank_image("V1", 1))
     place.store("create", place.name, f"{place.folder}/users", f"{place.folder}/volume")
     hosts = [Host(place, inner, "--state-every", "0") for inner in "ab"]
     hosts[0].online()
-    write_text(f"{hosts[0].folder}/work/recording.rules", "quota 7\n")
+    write(f"{hosts[0].folder}/work/recording.rules", "quota 7\n")
     for line in ("logmsg WELCOME TO ALL", "reload", "logmsg"):
         hosts[0].operate(line)
     ended = 0
@@ -468,11 +471,11 @@ def lengthen(place: Any) -> None:
 
 def files_site(command: str, folder: str) -> Site:
     """An installation of files with ended sessions, states, printouts, a log message and the time of an end."""
-    write_text(
+    write(
         f"{folder}/users",
         "USER ALICE WONDER 64K\nCONSOLE 009 3215\nSPOOL 00E PRINTER\nMDISK 191 3330 0 1 V1 W\n",
     )
-    write(f"{folder}/volume", image_of("V1", 1))
+    write(f"{folder}/volume", blank_image("V1", 1))
     site = Site(command, folder, f"{folder}/users", "--printouts", f"{folder}/prints")
     site.record = f"{folder}/today"
     site.words[1] = site.record
@@ -489,7 +492,7 @@ def files_site(command: str, folder: str) -> Site:
         site.operate(line)
     site.await_message("the session ends at")
     site.stop()
-    write_text(f"{site.record}.rules", "keep 30 days\n")
+    write(f"{site.record}.rules", "keep 30 days\n")
     return site
 
 
@@ -527,14 +530,13 @@ def haproxy_words(folder: str, place: dict[str, str]) -> str:
             raise AssertionError(f"{old} is not there once")
         block = block.replace(old, new)
     path = f"{folder}/haproxy.cfg"
-    write_text(path, block)
+    write(path, block)
     return path
 
 
 def haproxy_block() -> str:
     """The configuration that docs/HOSTS.md shows."""
-    top = os.path.dirname(os.path.dirname(os.path.dirname(os.path.realpath(__file__))))
-    with open(f"{top}/docs/HOSTS.md") as file:
+    with open(f"{TOP}/docs/HOSTS.md") as file:
         block = re.search(r"^    defaults\n(?:    .*\n|\n)+", file.read(), re.M)[0]
     return "\n".join(line[4:] for line in block.split("\n"))
 

@@ -18,26 +18,20 @@ import time
 sys.dont_write_bytecode = True
 TOP = os.path.dirname(os.path.dirname(os.path.dirname(os.path.realpath(__file__))))
 sys.path[:0] = [TOP, f"{TOP}/bin/lib"]
-from tests.installation import servers
-from tests.installation import store_cases
+from tests.installation import servers, store_cases
+from tests.lib.counting import Counts
+from tests.lib.installed import install
 
 SYSTEM = "/usr/bin/python3"
 # a stand-in for the program, whose first word names the part
 PLAYER = """#!/bin/sh
-module=installation.basics
-[ "$1" != logondesk ] || module=lib.desk
-exec '{python}' -Bc "import sys; sys.path.insert(0, '{top}'); from tests.$module import stand_in; stand_in(sys.argv[1:])" "$@"
+module=stand_in
+[ "$1" != logondesk ] || module=desk
+exec '{python}' -Bc "import sys; sys.path.insert(0, '{top}'); from tests.lib.$module import stand_in; stand_in(sys.argv[1:])" "$@"
 """
 
-passed = failed = 0
-
-
-def check(what: str, holds: object, *findings: object) -> None:
-    """Counts a test, and says what is wrong if it does not hold."""
-    global passed, failed
-    passed, failed = passed + bool(holds), failed + (not holds)
-    if not holds:
-        print(f"FAILED: {what}", *findings, sep="\n    ", flush=True)
+counted = Counts()
+check = counted.check
 
 
 def need_packages() -> None:
@@ -56,22 +50,6 @@ def need_packages() -> None:
 def skip(package: str) -> None:
     print(f"skipped: {package} is not installed")
     sys.exit(0)
-
-
-def make_repository(work: str) -> str:
-    """A repository of the commands, installed with a stand-in for the program."""
-    repository = f"{work}/repository"
-    shutil.copytree(f"{TOP}/bin", f"{repository}/bin", ignore=shutil.ignore_patterns("__pycache__"))
-    shutil.copytree(f"{TOP}/web", f"{repository}/web")
-    shutil.copy(f"{TOP}/VERSION", repository)
-    os.makedirs(f"{repository}/programs")
-    path = f"{repository}/programs/gathjumli_cli"
-    with open(path, "w") as file:
-        file.write(PLAYER.format(python=sys.executable, top=TOP))
-    os.chmod(path, 0o755)
-    with open(f"{path}.built", "w") as file:
-        file.write("sources 0\nkit none\nproved\n")
-    return repository
 
 
 def try_group(cases: list[Callable], work: str, repository: str) -> None:
@@ -154,7 +132,8 @@ GROUPS = {
 
 def try_cases(work: str, words: list[str]) -> None:
     """Runs the groups or the cases that are named."""
-    repository = make_repository(work)
+    player = PLAYER.format(python=sys.executable, top=TOP)
+    repository = install(f"{work}/repository", text=player)
     for name, group in GROUPS.items():
         if cases := [case for case in group if name in words or case.__name__ in words]:
             try_group(cases, work, repository)
@@ -162,7 +141,6 @@ def try_cases(work: str, words: list[str]) -> None:
 
 def try_all() -> None:
     """Runs the groups next to each other, since they mostly wait."""
-    global passed, failed
     running = [
         subprocess.Popen([sys.executable, __file__, name], stdout=subprocess.PIPE, text=True)
         for name in GROUPS
@@ -174,10 +152,7 @@ def try_all() -> None:
         print(*lines[:-1], sep="\n", flush=True)
         counts = re.fullmatch(r"(\d+) passed, (\d+) failed", lines[-1] if lines else "")
         check("a group of cases ends", counts, *lines[-1:])
-        passed, failed = (
-            have + int(more)
-            for have, more in zip((passed, failed), counts.groups() if counts else (0, 0))
-        )
+        counted.add(*map(int, counts.groups() if counts else (0, 0)))
 
 
 def main() -> None:
@@ -199,8 +174,7 @@ def main() -> None:
         store_cases.kill_all()
         shutil.rmtree(work, ignore_errors=True)
     print(f"{time.monotonic() - begun:.0f} s", file=sys.stderr)
-    print(f"{passed} passed, {failed} failed")
-    sys.exit(failed != 0)
+    sys.exit(counted.report())
 
 
 if __name__ == "__main__":

@@ -12,7 +12,9 @@ import subprocess
 import sys
 import time
 
-from tests.installation.basics import Person, make_site, on, person, run, write_text
+from tests.lib.files import write
+from tests.lib.host import free_port
+from tests.lib.sites import Person, make_site, on, person, run
 
 FLOOD = os.path.join(os.path.dirname(os.path.realpath(__file__)), "flood.py")
 # bytes a second that all strangers of an attack send together, and for how long
@@ -101,12 +103,6 @@ def make_certificate(folder: str) -> list[str]:
     return ["--certificate", paths[0], "--key", paths[1]]
 
 
-def free_port() -> int:
-    with socket.socket() as found:
-        found.bind(("127.0.0.1", 0))
-        return found.getsockname()[1]
-
-
 def come_silently(port: int, count: int) -> list[socket.socket]:
     """Connections that say nothing."""
     found = []
@@ -141,7 +137,7 @@ def try_silent(check: Callable, site: object) -> None:
     soft, hard = resource.getrlimit(resource.RLIMIT_NOFILE)
     resource.setrlimit(resource.RLIMIT_NOFILE, (min(hard, 2 * SILENT), hard))
     port, limited = free_port(), f"{site.folder}/installation"
-    write_text(limited, f'#!/bin/sh\nulimit -n 1024\nexec "{site.command}" "$@"\n')
+    write(limited, f'#!/bin/sh\nulimit -n 1024\nexec "{site.command}" "$@"\n')
     os.chmod(limited, 0o755)
     operate = [site.command.replace("/installation", "/operator"), f"{site.folder}/operator"]
     site.command = limited

@@ -5,8 +5,9 @@ from __future__ import annotations
 from collections.abc import Callable
 import os
 
-from tests.installation.basics import Site, make_site, names_in, read, run, write
 from tests.installation.states import shown, state_names, stored, value_in
+from tests.lib.files import names_in, read, write
+from tests.lib.sites import Site, make_site, run
 
 # what may have been done to the recording: its bytes then, or None if it is gone; and what the refusal says of the last state
 CHANGES: dict[str, tuple[Callable[[dict[str, bytes]], bytes | None], str]] = {

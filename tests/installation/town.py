@@ -3,19 +3,18 @@ tests/installation/minutes.py, tests/installation/hosts.py and tests/installatio
 from __future__ import annotations
 
 from typing import TYPE_CHECKING
-import glob
 import os
-import shutil
 
-from tests.installation.basics import Site, memory_of, person, write
-from tests.installation.servers import free_port
+from tests.lib.files import write
+from tests.lib.host import ADDRESS, free_port, memory_of
+from tests.lib.installed import install, program_of
+from tests.lib.places import TOP
+from tests.lib.sites import Site, person
 
 if TYPE_CHECKING:
     from tests.lib.desk import Account
 
-TOP = os.path.dirname(os.path.dirname(os.path.dirname(os.path.realpath(__file__))))
 COMMAND = f"{TOP}/bin/installation"
-ADDRESS = "127.0.0.1"
 DEVICES = "CONSOLE 009 3215\nSPOOL 00C READER\nSPOOL 00D PUNCH\nSPOOL 00E PRINTER\n"
 # counts register 2 down and stops
 COUNTS = "STORE 100 46200100820001080002000000000000"
@@ -23,17 +22,7 @@ COUNTS = "STORE 100 46200100820001080002000000000000"
 
 def lay_out(folder: str, is_unproved: bool) -> str:
     """The commands as they are installed, with the program that was built."""
-    repository = f"{folder}/repository"
-    for name in ("bin", "web"):
-        shutil.copytree(f"{TOP}/{name}", f"{repository}/{name}")
-    shutil.copy(f"{TOP}/VERSION", repository)
-    os.makedirs(f"{repository}/programs")
-    path = f"{TOP}/crates/gathjumli_cli/out/gathjumli_cli"
-    path = glob.glob(f"{TOP}/out/unproved/gathjumli_cli-*")[0] if is_unproved else path
-    shutil.copy(path, f"{repository}/programs/gathjumli_cli")
-    with open(f"{repository}/programs/gathjumli_cli.built", "w") as file:
-        file.write("sources 0\nkit none\nnot proved\n")
-    return repository
+    return install(f"{folder}/repository", program_of(is_unproved), proof="not proved")
 
 
 class Town(Site):

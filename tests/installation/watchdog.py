@@ -9,7 +9,9 @@ import socket
 import subprocess
 import time
 
-from tests.installation.basics import Site, make_site, on, read, run, write_text
+from tests.lib.files import read, write
+from tests.lib.places import TOP
+from tests.lib.sites import Site, make_site, on, run
 
 # seconds after which a program that does not answer is killed in these tests; on a busy host a stand-in takes ten to begin
 HUNG_AFTER = 5 if os.getloadavg()[0] < os.cpu_count() else 30
@@ -146,7 +148,7 @@ def try_readable_key(check: Callable, site: Site) -> None:
 
     said: list[str] = []
     path = f"{site.folder}/key"
-    write_text(path, "KEY\n")
+    write(path, "KEY\n")
     for mode in (0o600, 0o640, 0o604):
         os.chmod(path, mode)
         warn_of_readers(path, "the key", said.append)
@@ -156,8 +158,7 @@ def try_readable_key(check: Callable, site: Site) -> None:
 
 def try_unit(check: Callable) -> None:
     """The unit asks for what the command tells."""
-    top = os.path.dirname(os.path.dirname(os.path.dirname(os.path.realpath(__file__))))
-    lines = read(f"{top}/docs/installation.service").decode().splitlines()
+    lines = read(f"{TOP}/docs/installation.service").decode().splitlines()
     wanted = {"Type=notify", "TimeoutStartSec=infinity", "WatchdogSec=180", "LimitNOFILE=8192"}
     check("the unit is notified", wanted <= set(lines), *lines)
 

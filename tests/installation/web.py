@@ -17,7 +17,6 @@ import shutil
 import signal
 import socket
 import ssl
-import statistics
 import subprocess
 import sys
 import tempfile
@@ -37,13 +36,16 @@ from selenium.webdriver.common.keys import Keys
 from selenium.webdriver.support.ui import WebDriverWait
 from websockets.exceptions import ConnectionClosed, InvalidStatusCode, WebSocketException
 
-from tests.installation.basics import Site, memory_of, person, read, replayed, write
 from gathjumli.cli import ask_build, last, number, read_arguments
+from tests.lib.counting import Counts
+from tests.lib.figures import hundredths, notify
+from tests.lib.files import read, write
+from tests.lib.host import ADDRESS, free_port, memory_of
+from tests.lib.sites import Site, person, replayed
 
 if TYPE_CHECKING:
     from tests.lib.desk import Account
 
-ADDRESS = "127.0.0.1"
 DEVICES = "CONSOLE 009 3215\nSPOOL 00C READER\nSPOOL 00D PUNCH\nSPOOL 00E PRINTER\n"
 LISTING = f"{TOP}/examples/machines/card-listing/BARE.asm"
 NAMES = [
@@ -64,25 +66,8 @@ UNLABELLED = """
 return [...document.querySelectorAll("input, button, [role], section")].filter((found) => !found.labels?.length && !found.textContent.trim()
   && !found.getAttribute("aria-label") && !found.closest("[hidden]") && found.getAttribute("role") !== "status").map((found) => found.outerHTML);
 """
-passed = failed = 0
-
-
-def check(what: str, holds: object, *findings: object) -> None:
-    """Counts a test, and says what is wrong where it does not hold."""
-    global passed, failed
-    passed, failed = (passed + 1, failed) if holds else (passed, failed + 1)
-    if not holds:
-        print(f"FAILED: {what}", *findings, sep="\n    ", flush=True)
-
-
-def notify(text: str) -> None:
-    print(text, flush=True)
-
-
-def free_port() -> object:
-    with socket.socket() as one:
-        one.bind((ADDRESS, 0))
-        return one.getsockname()[1]
+counted = Counts()
+check = counted.check
 
 
 class Place(Site):
@@ -618,11 +603,6 @@ def question(count: int) -> tuple:
     return f"DISPLAY {address:X}", f"{address:06X}{' 00000000' * 4}"
 
 
-def hundredths(seconds: object) -> str:
-    found = sorted(taken * 1000 for taken in seconds)
-    return f"median {statistics.median(found):.1f} ms, 99th {found[int(len(found) * 0.99)]:.1f} ms, worst {found[-1]:.1f} ms"
-
-
 def users(count: int) -> str:
     return "".join(f"USER U{place:02} PW{place:02} 64K\n{DEVICES}" for place in range(count))
 
@@ -961,8 +941,7 @@ def main() -> None:
             begun = time.monotonic()
             PARTS[name](folder, options)
             notify(f"({name} took {time.monotonic() - begun:.0f} s)")
-    print(f"{passed} passed, {failed} failed")
-    sys.exit(failed != 0)
+    sys.exit(counted.report())
 
 
 main()

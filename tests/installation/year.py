@@ -22,23 +22,18 @@ sys.dont_write_bytecode = True
 TOP = os.path.dirname(os.path.dirname(os.path.dirname(os.path.realpath(__file__))))
 sys.path[:0] = [TOP, f"{TOP}/bin/lib"]
 
-from tests.installation.basics import (
-    PRINTS,
-    image_of,
-    memory_of,
-    names_in,
-    processor_ticks,
-    read,
-    sizes_of,
-    write,
-    write_text,
-)
-from tests.installation import basics
+from tests.lib.files import names_in, read, write
+from tests.lib.host import memory_of
+from tests.lib.images import blank_image
+from tests.lib.sites import PRINTS, processor_ticks, sizes_of
+from tests.lib import sites
 
 # others may share the host
-basics.PATIENCE = 900
+sites.PATIENCE = 900
 from tests.installation.operators import operator
 from tests.installation.town import COUNTS, Town, lay_out
+from tests.lib.counting import Counts
+from tests.lib.figures import notify
 from gathjumli.cli import last, number, read_arguments
 from gathjumli.consoles import END_OF_ANSWER
 
@@ -61,19 +56,8 @@ STOPPED = "STOPPED DISABLED WAIT"
 CLOSED = re.compile(r"FILE \d+ CLOSED")
 ENDED = re.compile(r"recording\.(\d{4}-\d\d-\d\d)-\d{6}")
 
-passed = failed = 0
-
-
-def check(what: str, holds: object, *findings: object) -> None:
-    """Counts a test, and says what is wrong where it does not hold."""
-    global passed, failed
-    passed, failed = (passed + 1, failed) if holds else (passed, failed + 1)
-    if not holds:
-        print(f"FAILED: {what}", *findings, sep="\n    ", flush=True)
-
-
-def notify(text: str) -> None:
-    print(text, flush=True)
+counted = Counts()
+check = counted.check
 
 
 class Clock:
@@ -199,8 +183,8 @@ class Year:
         command = f"{repository}/bin/installation"
         self.town = Town(place, options["users"], *words, command=command)
         self.town.paths.append(f"{place}/volume")
-        write(f"{place}/volume", image_of("YEAR01", 2))
-        write_text(f"{self.town.record}.rules", f"keep {options['keep']} days\n")
+        write(f"{place}/volume", blank_image("YEAR01", 2))
+        write(f"{self.town.record}.rules", f"keep {options['keep']} days\n")
         self.workers = [Worker(self.town, place) for place in range(options["users"])]
         self.until = time.monotonic() + 60 * options["minutes"]
         # of each start, the seconds that it took, and those of processor time among them
@@ -215,7 +199,7 @@ class Year:
     def start(self) -> None:
         begun = time.monotonic()
         self.town.start()
-        is_online = self.town.await_message("online at", basics.PATIENCE)
+        is_online = self.town.await_message("online at", sites.PATIENCE)
         check("it is online", is_online, *self.town.findings[-9:])
         self.starts.append(time.monotonic() - begun)
         self.computed.append(processor_ticks(self.town) / os.sysconf("SC_CLK_TCK"))
@@ -278,7 +262,7 @@ class Year:
         begun = time.monotonic()
         while (
             done := operator(self.town, "end")
-        ).returncode and time.monotonic() < begun + basics.PATIENCE:
+        ).returncode and time.monotonic() < begun + sites.PATIENCE:
             time.sleep(0.1)
         check("it ends", done.returncode == 0 and self.town.ended() == 0, done.stdout)
         return f"{self.folder}/town/{self.ended()[-1]}"
@@ -401,8 +385,7 @@ def main() -> None:
         signal.signal(signal.SIGTERM, lambda *_: setattr(year, "is_over", True))
         year.run()
         year.judge()
-    print(f"{passed} passed, {failed} failed")
-    sys.exit(failed != 0)
+    sys.exit(counted.report())
 
 
 main()

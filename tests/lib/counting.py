@@ -18,12 +18,20 @@ class Counts:
         """Adds tests that were counted elsewhere."""
         self.passed, self.failed = self.passed + passed, self.failed + failed
 
-    def ended(self) -> int:
+    def report(self) -> int:
         """Says how many there were; the exit status."""
-        return ended(self.passed, self.failed)
+        return report(self.passed, self.failed)
 
 
-def ended(passed: int, failed: int) -> int:
+def report(passed: int, failed: int) -> int:
     """Says how many tests passed and failed; the exit status."""
     print(f"{passed} passed, {failed} failed", flush=True)
     return int(failed != 0)
+
+
+def report_faults(faults: dict[str, list[str]]) -> int:
+    """Says what is wrong in each test, and how many have nothing; the exit status."""
+    for fault in sum(faults.values(), []):
+        print(f"FAILED: {fault}")
+    failed = sum(map(bool, faults.values()))
+    return report(len(faults) - failed, failed)

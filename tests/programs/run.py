@@ -26,6 +26,10 @@ from concurrent.futures import ThreadPoolExecutor
 
 sys.dont_write_bytecode = True
 TOP = os.path.dirname(os.path.dirname(os.path.dirname(os.path.realpath(__file__))))
+sys.path.insert(0, TOP)
+
+from tests.lib.counting import report
+
 PROGRAMS = f"{TOP}/tests/programs"
 # what the names of sources end with that nothing proves: rt ci takes no .rt file that it does not prove
 UNPROVED = "-unproved"
@@ -210,8 +214,7 @@ def main() -> int:
             fault = fault_of(folder, name)
             failed += fault is not None
             print(f"{name}: {fault or 'passed'}", flush=True)
-    print(f"{len(chosen) - failed} passed, {failed} failed")
-    return 1 if failed else 0
+    return report(len(chosen) - failed, failed)
 
 
 if __name__ == "__main__":

@@ -20,6 +20,9 @@ sys.dont_write_bytecode = True
 TOP = os.path.dirname(os.path.dirname(os.path.dirname(os.path.realpath(__file__))))
 sys.path[:0] = [TOP, f"{TOP}/bin/lib"]
 from tests.lib import desk
+from tests.lib.counting import Counts
+from tests.lib.files import read, write
+from tests.lib.images import image_of
 from tests.refusals import refused_states
 
 SOURCE = f"{TOP}/tests/refusals/refusing.c"
@@ -30,7 +33,6 @@ SESSIONS = f"{TOP}/tests/transcripts"
 DESK_LINES = 150
 # a run of a program takes some milliseconds
 SECONDS = 60
-HEADS = 19
 # of the allocations of a state so many are refused, and by a command in Python, which takes longer, so many
 MOST_REFUSED, MOST_COMMANDS = 500, 16
 # runs the program that it names, whose host alone refuses something
@@ -38,63 +40,14 @@ REFUSED_PROGRAM = """#!/bin/sh
 LD_PRELOAD="$LIBRARY" REFUSE="$REFUSED" exec "$PROGRAM" "$@"
 """
 
-passed = failed = 0
+counted = Counts()
+check = counted.check
 counts = {}
-
-
-def check(what: str, holds: object, *findings: object) -> None:
-    """Counts a test, and says what is wrong where it does not hold."""
-    global passed, failed
-    if holds:
-        passed += 1
-        return
-    failed += 1
-    print(f"FAILED: {what}", *findings, sep="\n    ")
 
 
 def count(what: str, number: int) -> None:
     """Adds to what is reported at the end."""
     counts[what] = counts.get(what, 0) + number
-
-
-def read(path: str) -> object:
-    with open(path, "rb") as file:
-        return file.read()
-
-
-def write(path: str, data: bytes) -> None:
-    with open(path, "wb") as file:
-        file.write(data if isinstance(data, bytes) else data.encode())
-
-
-# --- images, by their definition in docs/FORMATS.md and not by the programs ---
-
-
-def image_of(text: str, version: int = 2) -> object:
-    """The image of the volume that a text states."""
-    lines = [line.split(" ") for line in text.decode().splitlines()]
-    _, serial, cylinders = lines[0]
-    places = [(c, h) for c in range(int(cylinders)) for h in range(HEADS)]
-    homes = {(c, h): bytes([0, *c.to_bytes(2, "big"), *h.to_bytes(2, "big")]) for c, h in places}
-    tracks = {place: [] for place in places}
-    for word, cylinder, head, *rest in lines[1:]:
-        place = int(cylinder), int(head)
-        if word == "HOME":
-            homes[place] = bytes.fromhex(rest[0])
-            continue
-        name, key, data = (bytes.fromhex("" if item == "-" else item) for item in rest)
-        tracks[place].append(name + bytes([len(key)]) + len(data).to_bytes(2, "big") + key + data)
-    body = b"".join(
-        homes[place] + bytes([len(tracks[place])]) + b"".join(tracks[place]) for place in places
-    )
-    total = sum(map(len, tracks.values())).to_bytes(4, "big") if version == 2 else b""
-    return (
-        b"CKD%d" % version
-        + serial.encode().ljust(6)
-        + int(cylinders).to_bytes(2, "big")
-        + body
-        + total
-    )
 
 
 # --- cases: a part of the program, what it is given, and what it answers where nothing fails ---
@@ -810,8 +763,7 @@ def main() -> int:
         shutil.rmtree(work)
     for what, number in counts.items():
         print(f"{what}: {number}")
-    print(f"{passed} passed, {failed} failed")
-    return failed != 0
+    return counted.report()
 
 
 sys.exit(main())

@@ -32,8 +32,11 @@ from gathjumli.state_pieces import Pieces
 from gathjumli.state_programs import StateProgram
 from gathjumli.state_view import StateView
 from gathjumli.tracing import Trace
+from tests.lib.files import read_text
+from tests.lib.images import image_of
+from tests.lib.places import TOP
 
-TOP = os.path.dirname(os.path.dirname(os.path.dirname(os.path.realpath(__file__))))
+VOLUME = b"VOLUME WORK01 3\nREC 0 0 0000000001 - 44415441\n"
 EXAMPLES = f"{TOP}/examples/users"
 MACHINES = f"{os.path.dirname(EXAMPLES)}/machines"
 # examples of one machine: typed lines, timers, devices, files that are closed
@@ -72,14 +75,6 @@ AUTO
 AUTO
 LINE A DISPLAY PSW
 """
-
-
-def image(serial: bytes, cylinders: int) -> bytes:
-    """The image of a volume with one record."""
-    track = bytes(5) + b"\1" + bytes([0, 0, 0, 0, 1, 0, 0, 4]) + b"DATA"
-    blank = (bytes(5) + b"\0") * (19 * cylinders - 1)
-    head = b"CKD2" + serial + cylinders.to_bytes(2, "big")
-    return head + track + blank + (1).to_bytes(4, "big")
 
 
 def machines_of(program: str, directory: str, sizes: list[str], volumes: list[str]) -> Machines:
@@ -192,7 +187,7 @@ def try_bare(check: Callable, program: str) -> None:
         paths = [f"{folder}/one", f"{folder}/other"]
         for path in paths:
             with open(path, "wb") as file:
-                file.write(image(b"WORK01", 3))
+                file.write(image_of(VOLUME))
         machines = in_system(of_bare("64K", paths))
         stated = read_text(machines.before[-1]).splitlines()
         check("each volume is a minidisk", stated[5:] == DISKS, *stated)
@@ -206,11 +201,6 @@ def try_bare(check: Callable, program: str) -> None:
         check("its states have them", found == [(0x190, 3, True), (0x191, 3, True)], *found)
         moments.close()
         machines.close()
-
-
-def read_text(path: str) -> str:
-    with open(path, encoding="latin-1") as file:
-        return file.read()
 
 
 def displayed(program: StateProgram, view: StateView, user: str) -> list[str]:
@@ -680,7 +670,7 @@ def try_moments(check: Callable, repository: str, program: str, count: int) -> N
         with open(f"{folder}/directory", "w") as file:
             file.write(DIRECTORY)
         with open(f"{folder}/volume", "wb") as file:
-            file.write(image(b"WORK01", 3))
+            file.write(image_of(VOLUME))
         machines = machines_of(program, f"{folder}/directory", [], [f"{folder}/volume"])
         try_run(check, "long", machines, LONG.encode(), count)
         machines = machines_of(program, f"{folder}/directory", [], [f"{folder}/volume"])

@@ -12,13 +12,19 @@ import json
 import os
 import select
 import shutil
-import socket
 import subprocess
 import sys
 import tempfile
 import time
 
+sys.dont_write_bytecode = True
 TOP = os.path.dirname(os.path.dirname(os.path.dirname(os.path.realpath(__file__))))
+sys.path.insert(0, TOP)
+
+from tests.lib.counting import Counts
+from tests.lib.host import free_port
+from tests.lib.installed import install
+
 FOUND = "document.getElementById('found').textContent"
 # a loop that moves a word, and adds 1 to it, for more units than are sought before anybody stops a search: some ten seconds of them
 RUNS = 20
@@ -51,18 +57,10 @@ OPTIONS = (
     "--disable-background-networking --remote-debugging-pipe"
 ).split()
 
-passed = failed = 0
+counted = Counts()
+check = counted.check
 # where the commands are
 place = TOP
-
-
-def check(what: str, holds: object, *findings: object) -> None:
-    global passed, failed
-    if holds:
-        passed += 1
-        return
-    failed += 1
-    print(f"FAILED: {what}", *findings, sep="\n    ")
 
 
 class Browser:
@@ -181,12 +179,6 @@ class Browser:
     def close(self) -> None:
         self.process.terminate()
         self.process.wait()
-
-
-def free_port() -> int:
-    with socket.socket() as found:
-        found.bind(("127.0.0.1", 0))
-        return found.getsockname()[1]
 
 
 @contextlib.contextmanager
@@ -479,27 +471,16 @@ def try_frames(browser: Browser, looks: Looks) -> None:
         looks.take("frames")
 
 
-def install_built(folder: str) -> None:
-    """Has the commands run the program that was built, as if they were installed."""
-    global place
-    place = folder
-    for name in ("bin", "web"):
-        shutil.copytree(f"{TOP}/{name}", f"{folder}/{name}")
-    shutil.copy(f"{TOP}/VERSION", folder)
-    os.mkdir(f"{folder}/programs")
-    shutil.copy(f"{TOP}/crates/gathjumli_cli/out/gathjumli_cli", f"{folder}/programs")
-    with open(f"{folder}/programs/gathjumli_cli.built", "w") as file:
-        file.write("sources 0\nkit 0\nproved\n")
-
-
 def main() -> None:
+    global place
     pictures = sys.argv[sys.argv.index("--pictures") + 1] if "--pictures" in sys.argv else None
     if not shutil.which("chromium"):
         print("no chromium: the page is not tried")
         return
     with tempfile.TemporaryDirectory(ignore_cleanup_errors=True) as folder:
         if "--built" in sys.argv:
-            install_built(f"{folder}/installed")
+            # the commands run the program that was built, as if they were installed
+            place = install(f"{folder}/installed")
         browser = Browser(f"{folder}/browser")
         try:
             looks = Looks(browser, pictures)
@@ -511,8 +492,7 @@ def main() -> None:
             check("the page reports no fault", not browser.faults, *browser.faults[:3])
         finally:
             browser.close()
-    print(f"{passed} passed, {failed} failed")
-    sys.exit(1 if failed else 0)
+    sys.exit(counted.report())
 
 
 main()

@@ -13,7 +13,12 @@ import os
 import re
 import sys
 
+sys.dont_write_bytecode = True
 TOP = os.path.dirname(os.path.dirname(os.path.dirname(os.path.realpath(__file__))))
+sys.path.insert(0, TOP)
+
+from tests.lib.counting import report
+
 WIDTH = 100
 WIDTH_OF_PROOFS = 120
 # lines that a text, an attribute, an example or one name makes long
@@ -138,8 +143,7 @@ def main(names: list[str]) -> int:
         passed += not found
     for fault in faults:
         print(f"FAILED: {fault}")
-    print(f"{passed} passed, {len(faults)} failed")
-    return 1 if faults else 0
+    return report(passed, len(faults))
 
 
 if __name__ == "__main__":

@@ -11,7 +11,12 @@ import pathlib
 import re
 import sys
 
+sys.dont_write_bytecode = True
 TOP = pathlib.Path(__file__).resolve().parents[2]
+sys.path.insert(0, str(TOP))
+
+from tests.lib.counting import report_faults
+
 # of the pages of docs/, as wc -w counts them
 MOST_WORDS = 17000
 
@@ -310,11 +315,10 @@ def main(pages: object) -> int:
             if words > MOST_WORDS
             else []
         )
-    for fault in sum(faults.values(), []):
-        print(f"FAILED: {fault}".replace(f"{TOP}/", ""))
-    failed = sum(map(bool, faults.values()))
-    print(f"{len(faults) - failed} passed, {failed} failed")
-    return 1 if failed else 0
+    places = {
+        name: [text.replace(f"{TOP}/", "") for text in texts] for name, texts in faults.items()
+    }
+    return report_faults(places)
 
 
 if __name__ == "__main__":

@@ -27,6 +27,8 @@ import resource
 import subprocess
 import tempfile
 
+from tests.lib.files import read
+
 # a run takes some milliseconds
 SECONDS = 120
 
@@ -115,11 +117,6 @@ def runs_of(path: str) -> object:
         elif line[1:2] not in (" ", "") or not run.expect(mark, text):
             run.findings.append(line)
     return paragraphs + ([runs] if runs else [])
-
-
-def read(path: str) -> object:
-    with open(path, "rb") as file:
-        return file.read()
 
 
 def change(room: int, mark: object, text: str) -> None:

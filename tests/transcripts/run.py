@@ -27,10 +27,8 @@ import time
 sys.dont_write_bytecode = True
 TOP = os.path.dirname(os.path.dirname(os.path.dirname(os.path.realpath(__file__))))
 sys.path[:0] = [TOP, f"{TOP}/bin/lib"]
-from tests.transcripts import halfwords
-from tests.transcripts import many
-from tests.transcripts import paging
-from tests.transcripts import program_runs
+from tests.lib.counting import report
+from tests.transcripts import halfwords, many, paging, program_runs
 
 if TYPE_CHECKING:
     from tests.lib.desk import Account, Place
@@ -1566,8 +1564,7 @@ def main() -> int:
                 print(f"{name}: its table is lost: {error}")
                 agreed, others = 0, 1
             passed, failed = passed + agreed, failed + others
-    print(f"{passed} passed, {failed} failed")
-    return 1 if failed else 0
+    return report(passed, failed)
 
 
 if __name__ == "__main__":

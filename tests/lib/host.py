@@ -1,0 +1,21 @@
+"""What tests ask of their host."""
+from __future__ import annotations
+
+import re
+import socket
+
+from tests.lib.files import read_text
+
+ADDRESS = "127.0.0.1"
+
+
+def free_port() -> int:
+    """A port of the loopback address that nobody has."""
+    with socket.socket() as found:
+        found.bind((ADDRESS, 0))
+        return found.getsockname()[1]
+
+
+def memory_of(process: int) -> int:
+    """The most memory that a process had, in kilobytes."""
+    return int(re.search(r"VmHWM:\s+(\d+)", read_text(f"/proc/{process}/status"))[1])
