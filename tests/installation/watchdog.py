@@ -4,21 +4,45 @@ from __future__ import annotations
 from collections.abc import Callable, Iterator
 import contextlib
 import os
+import re
 import signal
 import socket
 import subprocess
+import sys
 import time
 
 from tests.lib.files import read, write
 from tests.lib.places import TOP
 from tests.lib.sites import Site, make_site, on, run
 
-# seconds after which a program that does not answer is killed in these tests; on a busy host a stand-in takes ten to begin
-HUNG_AFTER = 5 if os.getloadavg()[0] < os.cpu_count() else 30
+# a program that does not answer is killed in these tests after so many times as many seconds as a stand-in takes to begin, within bounds
+TIMES_TO_BEGIN, LEAST, MOST = 20, 5, 30
+# by how much a look of the watchdog may be late
+LATE = 2
 # seconds after which the manager of these tests wants a sign of life
 WATCHDOG = 4
 # how long a test waits for what has to come
 PATIENCE = 90
+
+
+def seconds_to_hang() -> int:
+    """After how many seconds a program hangs: on a busy host one that works may take long to answer too."""
+    begun = time.monotonic()
+    subprocess.run([sys.executable, "-Bc", "import asyncio, json"], check=True)
+    took = time.monotonic() - begun
+    return round(max(LEAST, min(TIMES_TO_BEGIN * took, MOST)))
+
+
+def patience(hung: int) -> float:
+    """How long what follows a hang may take: the watchdog counts no time in which the host keeps it from looking."""
+    return PATIENCE + 4 * hung
+
+
+def is_told_of(site: Site, who: str, hung: int) -> bool:
+    """Whether the operator is told that this one hung for so long, and is killed."""
+    text = rf"{who} gives no answer for (\d+) seconds: it is killed"
+    found = re.search(text, site.since_start())
+    return bool(found) and hung <= int(found[1]) <= hung + LATE
 
 
 @contextlib.contextmanager
@@ -53,11 +77,12 @@ def child_of(site: Site, name: str) -> int:
     return int(subprocess.run(words, capture_output=True, text=True).stdout.split()[0])
 
 
-def try_hung_program(check: Callable, site: Site) -> None:
+def try_hung_program(check: Callable, site: Site, hung: int) -> None:
     """A program that is stopped is killed and started again, under the same connections, and nothing that was shown is lost."""
 
     async def tried() -> tuple[list[str], float]:
         alice = await on(site)
+        alice.patience = patience(hung)
         alice.type("STORE G1 00000005", "DISPLAY G1")
         await alice.until("GPR 1 = 00000005")
         os.kill(site.program(), signal.SIGSTOP)
@@ -68,17 +93,16 @@ def try_hung_program(check: Callable, site: Site) -> None:
         alice.type("LOGOFF")
         return await alice.rest(), took
 
-    site.online("--hung-after", str(HUNG_AFTER))
+    site.online("--hung-after", str(hung))
     lines, took = run(tried())
     check("a line is answered after the program hung", lines[-1] == "LOGOFF OK", *lines)
-    check("not at once, and soon", HUNG_AFTER - 1 <= took < PATIENCE, f"{took:.1f} s")
-    wanted = f"the program gives no answer for {HUNG_AFTER} seconds: it is killed"
-    is_told = site.await_message(wanted) and site.await_message("the program goes on")
-    check("the operator is told", is_told, *site.findings)
+    check("not at once, and soon", hung - 1 <= took < patience(hung), f"{took:.1f} s")
+    goes_on = site.await_message("the program goes on")
+    check("the operator is told", goes_on and is_told_of(site, "the program", hung), *site.findings)
     check("it is suspended", site.stop() == 0, *site.findings)
 
 
-def try_slow_program(check: Callable, site: Site) -> None:
+def try_slow_program(check: Callable, site: Site, hung: int) -> None:
     """A replay that takes longer than a program may hang is none that hangs."""
 
     async def lines() -> None:
@@ -88,27 +112,26 @@ def try_slow_program(check: Callable, site: Site) -> None:
             await alice.until("STORED")
         alice.go()
 
-    words = ["--hung-after", str(HUNG_AFTER), "--state-every", "0"]
+    words = ["--hung-after", str(hung), "--state-every", "0"]
     site.online(*words)
     run(lines())
     site.kill(is_all=True)
-    os.environ["PEOPLE_SLOW"] = str(1.5 * HUNG_AFTER / 60)
+    os.environ["PEOPLE_SLOW"] = str(1.5 * hung / 60)
     site.online(*words)
     del os.environ["PEOPLE_SLOW"]
     check("a long replay is left alone", "it is killed" not in "".join(site.findings))
     check("it is suspended", site.stop() == 0, *site.findings)
 
 
-def try_hung_desk(check: Callable, site: Site) -> None:
+def try_hung_desk(check: Callable, site: Site, hung: int) -> None:
     """A desk that hangs is killed, which ends the command, with its reason."""
-    site.online("--hung-after", str(HUNG_AFTER))
+    site.online("--hung-after", str(hung))
     os.kill(child_of(site, "logondesk"), signal.SIGSTOP)
     with socket.socket(socket.AF_UNIX) as stranger:
         stranger.connect(f"{site.folder}/socket")
-        status = site.ended()
-    findings = site.since_start()
-    wanted = f"the logon desk gives no answer for {HUNG_AFTER} seconds: it is killed"
-    check("a desk that hangs ends the command", status == 3 and wanted in findings, findings)
+        status = site.ended(patience(hung))
+    is_told = is_told_of(site, "the logon desk", hung)
+    check("a desk that hangs ends the command", status == 3 and is_told, status, *site.findings)
 
 
 def try_manager(check: Callable, site: Site) -> None:
@@ -168,7 +191,8 @@ def try_watchdog(check: Callable, command: str, folder: str) -> None:
     os.makedirs(folder)
     try_unit(check)
     try_readable_key(check, make_site(command, f"{folder}/key"))
-    try_hung_program(check, make_site(command, f"{folder}/program"))
-    try_slow_program(check, make_site(command, f"{folder}/slow"))
-    try_hung_desk(check, make_site(command, f"{folder}/desk"))
+    hung = seconds_to_hang()
+    try_hung_program(check, make_site(command, f"{folder}/program"), hung)
+    try_slow_program(check, make_site(command, f"{folder}/slow"), hung)
+    try_hung_desk(check, make_site(command, f"{folder}/desk"), hung)
     try_manager(check, make_site(command, f"{folder}/manager"))

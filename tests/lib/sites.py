@@ -77,9 +77,9 @@ class Site:
         self.process.stdin.write(f"{line}\n")
         self.process.stdin.flush()
 
-    def ended(self) -> object:
-        """Waits until it has ended; its status."""
-        self.findings.append(self.process.communicate(timeout=PATIENCE)[0] or "-")
+    def ended(self, seconds: float | None = None) -> object:
+        """Waits until it has ended, so long at most; its status."""
+        self.findings.append(self.process.communicate(timeout=seconds or PATIENCE)[0] or "-")
         return self.process.returncode
 
     def stop(self) -> object:
@@ -117,6 +117,8 @@ class Person:
     def __init__(self, where: object) -> None:
         self.where = where
         self.lines = []
+        # how long the next line may take
+        self.patience = PATIENCE
 
     async def come(self) -> object:
         if isinstance(self.where, tuple):
@@ -127,7 +129,7 @@ class Person:
 
     async def line(self) -> None:
         """The next line that is shown, or None at the end."""
-        data = await asyncio.wait_for(self.reader.readline(), PATIENCE)
+        data = await asyncio.wait_for(self.reader.readline(), self.patience)
         if not data:
             return None
         self.lines.append(data.decode("latin-1").rstrip("\r\n"))
