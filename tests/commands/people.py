@@ -1,10 +1,11 @@
 #!/usr/bin/env python3
-"""Tests the commands in Python. Programs are played from a recording, tests/commands/recorded/recording, and nothing is proved or built;
-with --record, over programs that are built, the recording and the sessions are made anew; with --built the built vm370 is given the
-examples part by part. The last line is 'N passed, M failed'."""
+"""Tests the commands in Python: tests/commands/people.py [--record | --built | NAME..]. Programs are played from a recording,
+tests/commands/recorded/recording, and nothing is proved or built; with --record, over programs that are built, the recording and the
+sessions are made anew; with --built the built vm370 is given the examples part by part. With names only those tests are made. The last
+line is 'N passed, M failed'."""
 from __future__ import annotations
 
-from collections.abc import Iterator
+from collections.abc import Callable, Iterator
 from typing import TYPE_CHECKING
 import base64
 import hashlib
@@ -1410,6 +1411,17 @@ def try_states(repository: str, folder: str) -> None:
     watching.try_event_by_event(check, PROGRAM, f"{folder}/watched")
 
 
+def chosen(names: list[str]) -> list[Callable[[str, str], None]]:
+    """The tests of these names, or all."""
+    tests = {name: test for name, test in globals().items() if name.startswith("test_")}
+    if unknown := [name for name in names if f"test_{name}" not in tests]:
+        known = " ".join(name.removeprefix("test_") for name in tests)
+        sys.exit(f"there is no test {unknown[0]}: {known}")
+    return [
+        test for name, test in tests.items() if not names or name.removeprefix("test_") in names
+    ]
+
+
 def main() -> None:
     if sys.argv[1:2] == ["--play"]:
         play(sys.argv[2], sys.argv[3:])
@@ -1427,7 +1439,7 @@ def main() -> None:
         try_over_programs(repository, folder.name)
         try_states(repository, f"{folder.name}/state commands")
         sys.exit(counted.report())
-    for test in [item for name, item in globals().items() if name.startswith("test_")]:
+    for test in chosen([word for word in sys.argv[1:] if word != "--record"]):
         work = tempfile.mkdtemp()
         path = os.environ["PATH"]
         try:

@@ -12,7 +12,6 @@ from __future__ import annotations
 import os
 import re
 import shutil
-import subprocess
 import sys
 import tempfile
 
@@ -21,6 +20,7 @@ TOP = os.path.dirname(os.path.dirname(os.path.dirname(os.path.realpath(__file__)
 sys.path.insert(0, TOP)
 
 from tests.lib.counting import report
+from tests.lib.host import done_in
 
 SCRATCH = "page_examples"
 HEAD = "use std::test::Fail;\n"
@@ -155,17 +155,7 @@ def run(room: int, pages: object) -> tuple:
         write(f"{room}/crates/{SCRATCH}/src/of_{module_name(path)}.rt", text)
     modules = "".join(f"#[cfg(test)]\nmod of_{module_name(path)};\n" for path in pages)
     write(f"{room}/crates/{SCRATCH}/src/lib.rt", f"#![tactic(auto)]\n\n{modules}")
-    done = subprocess.run(
-        ["rt", "try", "--test"],
-        cwd=f"{room}/crates/{SCRATCH}",
-        timeout=SECONDS,
-        text=True,
-        check=False,
-        errors="replace",
-        stdin=subprocess.DEVNULL,
-        stdout=subprocess.PIPE,
-        stderr=subprocess.STDOUT,
-    )
+    done = done_in(f"{room}/crates/{SCRATCH}", ["rt", "try", "--test"], SECONDS)
     return done.stdout, places
 
 

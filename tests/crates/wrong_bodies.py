@@ -22,6 +22,7 @@ TOP = os.path.dirname(os.path.dirname(os.path.dirname(os.path.realpath(__file__)
 sys.path.insert(0, TOP)
 
 from tests.lib.counting import report
+from tests.lib.host import done_in
 
 LIST = f"{TOP}/tests/crates/wrong-bodies.txt"
 # what a check of a crate reads
@@ -150,17 +151,7 @@ def tried(kit: object, crate: str, bodies: object) -> object:
         for path, text in texts.items():
             with open(f"{room}/{path}", "w", encoding="utf-8") as file:
                 file.write(text)
-        done = subprocess.run(
-            check_words(crate, bodies, kit),
-            cwd=room,
-            timeout=SECONDS,
-            text=True,
-            check=False,
-            errors="replace",
-            stdin=subprocess.DEVNULL,
-            stdout=subprocess.PIPE,
-            stderr=subprocess.STDOUT,
-        )
+        done = done_in(room, check_words(crate, bodies, kit), SECONDS)
     for function, why in judged(done, crate, texts, bodies).items():
         # one that calls another is tried again alone
         is_again = why and "it calls" in why and len(bodies) > 1

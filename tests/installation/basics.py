@@ -656,14 +656,9 @@ def try_files(check: Callable, site: object, prints: object) -> object:
         bob.go()
         return bob.lines
 
-    site.online(
-        "--decks",
-        f"{site.folder}/decks",
-        "--printouts",
-        f"{site.folder}/prints",
-        "--sender",
-        "OPER",
-    )
+    words = ["--decks", f"{site.folder}/decks", "--printouts", f"{site.folder}/prints"]
+    words += ["--sender", "OPER"]
+    site.online(*words)
     shown = run(tried())
     name = f"{site.folder}/prints/{site.session()}/PRT0001-ALICE.txt"
     holds = os.path.exists(name) and read(name) == b"HELLO\n"
@@ -685,14 +680,7 @@ def try_files(check: Callable, site: object, prints: object) -> object:
     check("or refused with a reason", findings == wanted and len(refused) == 6, *refused, *findings)
     site.kill()
     os.replace(f"{folder}/done/text", f"{folder}/text")
-    site.online(
-        "--decks",
-        f"{site.folder}/decks",
-        "--printouts",
-        f"{site.folder}/prints",
-        "--sender",
-        "OPER",
-    )
+    site.online(*words)
     check(
         "a deck that was read in before a crash is only moved",
         site.await_message("deck text for BOB: read in"),

@@ -12,7 +12,7 @@ import time
 
 from tests.installation.basics import kept_of
 from tests.lib.files import names_in, read, write
-from tests.lib.sites import logged_on, make_site, on, person, replayed, run, until_so
+from tests.lib.sites import answered, logged_on, make_site, on, person, replayed, run, until_so
 
 
 # --- users' files ---
@@ -333,15 +333,6 @@ LINES = 500000
 def try_listing(check: Callable, site: object) -> None:
     """While pages of a long listing are made others are answered as fast as before, at the 99th hundredth."""
 
-    async def answered(one: object, until: object) -> object:
-        took = []
-        while not until():
-            begun = time.monotonic()
-            one.type("DISPLAY G1")
-            await one.until("GPR 1 = 00000000")
-            took.append(time.monotonic() - begun)
-        return sorted(took)[int(len(took) * 0.99)]
-
     async def tried() -> tuple:
         alice, bob = await person(f"{site.folder}/socket"), await person(f"{site.folder}/socket")
         await alice.logon("ALICE", "WONDER")
@@ -355,7 +346,8 @@ def try_listing(check: Callable, site: object) -> None:
         meanwhile = await answered(bob, lambda: os.path.exists(path))
         alice.go()
         bob.go()
-        return before, meanwhile, read(path).count(b"\n")
+        last = [took[int(len(took) * 0.99)] for took in (before, meanwhile)]
+        return *last, read(path).count(b"\n")
 
     site.online("--printouts", f"{site.folder}/prints")
     before, meanwhile, lines = run(tried())

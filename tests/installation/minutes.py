@@ -14,7 +14,6 @@ import os
 import random
 import re
 import shutil
-import signal
 import socket
 import subprocess
 import sys
@@ -33,6 +32,7 @@ from tests.lib.counting import Counts
 from tests.lib.figures import hundredths, notify
 from tests.lib.files import read, write
 from tests.lib.images import blank_image
+from tests.lib.parts import do_parts, parts_of
 from tests.lib.places import PROGRAM
 from tests.lib.sites import BANNER, Person, person, processor_ticks, replayed, sizes_of
 
@@ -850,22 +850,13 @@ OPTIONS = {
     "--lines": number(1000, 9999999),
 }
 USUAL = {"--seconds": 600, "--kills": 100, "--lines": 500000}
-PARTS = {
-    name.removeprefix("part_"): item
-    for name, item in list(globals().items())
-    if name.startswith("part_")
-}
+PARTS = parts_of(dict(globals()))
 
 
 def main() -> None:
     found, names = read_arguments(sys.argv[1:], OPTIONS, 0, 100)
     options = {name.removeprefix("--"): last(found[name], usual) for name, usual in USUAL.items()}
-    signal.signal(signal.SIGTERM, lambda *_: sys.exit(143))
-    with tempfile.TemporaryDirectory(prefix="try-installation-") as folder:
-        for name in names or PARTS:
-            begun = time.monotonic()
-            PARTS[name](folder, options)
-            notify(f"({name} took {time.monotonic() - begun:.0f} s)")
+    do_parts(PARTS, names, options, "minutes")
     sys.exit(counted.report())
 
 

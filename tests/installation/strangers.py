@@ -14,7 +14,7 @@ import time
 
 from tests.lib.files import write
 from tests.lib.host import free_port
-from tests.lib.sites import Person, make_site, on, person, run
+from tests.lib.sites import Person, answered, make_site, on, person, run
 
 FLOOD = os.path.join(os.path.dirname(os.path.realpath(__file__)), "flood.py")
 # bytes a second that all strangers of an attack send together, and for how long
@@ -27,18 +27,6 @@ FLOODS = {
     "options of telnet": b"\xff\xfd\x03",
     "LOGONs": b"LOGON X Y\n",
 }
-
-
-async def answered(one: object, until: Callable[[], bool]) -> list[float]:
-    """How long a line takes that somebody types again and again, in order of length."""
-    took = []
-    while not until():
-        begun = time.monotonic()
-        one.type("DISPLAY G1")
-        await one.until("GPR 1 = 00000000")
-        took.append(time.monotonic() - begun)
-        await asyncio.sleep(0.01)
-    return sorted(took)
 
 
 def bound_of_line() -> float:

@@ -14,7 +14,6 @@ import os
 import random
 import select
 import shutil
-import signal
 import socket
 import ssl
 import subprocess
@@ -41,6 +40,7 @@ from tests.lib.counting import Counts
 from tests.lib.figures import hundredths, notify
 from tests.lib.files import read, write
 from tests.lib.host import ADDRESS, free_port, memory_of
+from tests.lib.parts import do_parts, parts_of
 from tests.lib.sites import Site, person, replayed
 
 if TYPE_CHECKING:
@@ -922,11 +922,7 @@ def part_hostile(folder: str, options: object) -> None:
 
 
 OPTIONS = {"--seconds": number(1, 100000), "--pictures": str}
-PARTS = {
-    name.removeprefix("part_"): part
-    for name, part in list(globals().items())
-    if name.startswith("part_")
-}
+PARTS = parts_of(dict(globals()))
 
 
 def main() -> None:
@@ -935,12 +931,7 @@ def main() -> None:
         "seconds": last(found["--seconds"], 600),
         "pictures": last(found["--pictures"], None),
     }
-    signal.signal(signal.SIGTERM, lambda *_: sys.exit(143))
-    with tempfile.TemporaryDirectory(prefix="try-web-") as folder:
-        for name in names or PARTS:
-            begun = time.monotonic()
-            PARTS[name](folder, options)
-            notify(f"({name} took {time.monotonic() - begun:.0f} s)")
+    do_parts(PARTS, names, options, "web")
     sys.exit(counted.report())
 
 

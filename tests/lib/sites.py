@@ -1,7 +1,7 @@
 """An installation, and people at it, as programs."""
 from __future__ import annotations
 
-from collections.abc import Iterator
+from collections.abc import Callable, Iterator
 import asyncio
 import atexit
 import contextlib
@@ -243,6 +243,18 @@ async def on(site: object, name: str = "ALICE", password: str = "WONDER") -> obj
     one = await person(f"{site.folder}/socket")
     await one.logon(name, password)
     return one
+
+
+async def answered(one: Person, until: Callable[[], bool], pause: float = 0.01) -> list[float]:
+    """How long a line takes that somebody types again and again, in order of length."""
+    took = []
+    while not until():
+        begun = time.monotonic()
+        one.type("DISPLAY G1")
+        await one.until("GPR 1 = 00000000")
+        took.append(time.monotonic() - begun)
+        await asyncio.sleep(pause)
+    return sorted(took)
 
 
 def processor_ticks(site: object) -> object:
