@@ -6,16 +6,15 @@ from typing import TYPE_CHECKING
 import os
 
 from tests.lib.files import write
-from tests.lib.host import ADDRESS, free_port, memory_of
+from tests.lib.host import ADDRESS, free_port
 from tests.lib.installed import install, program_of
 from tests.lib.places import TOP
-from tests.lib.sites import Site, person
+from tests.lib.sites import DEVICES, Site, person
 
 if TYPE_CHECKING:
     from tests.lib.desk import Account
 
 COMMAND = f"{TOP}/bin/installation"
-DEVICES = "CONSOLE 009 3215\nSPOOL 00C READER\nSPOOL 00D PUNCH\nSPOOL 00E PRINTER\n"
 # counts register 2 down and stops
 COUNTS = "STORE 100 46200100820001080002000000000000"
 
@@ -49,6 +48,3 @@ class Town(Site):
         one = await person(self.where)
         await one.logon(user, f"PW{user[1:]}")
         return one
-
-    def told_memory(self) -> str:
-        return f"command {memory_of(self.process.pid) // 1024} MB, program {memory_of(self.program()) // 1024} MB"

@@ -41,12 +41,11 @@ from tests.lib.figures import hundredths, notify
 from tests.lib.files import read, write
 from tests.lib.host import ADDRESS, free_port, memory_of
 from tests.lib.parts import do_parts, parts_of
-from tests.lib.sites import Site, person, replayed
+from tests.lib.sites import DEVICES, Site, person, replayed
 
 if TYPE_CHECKING:
     from tests.lib.desk import Account
 
-DEVICES = "CONSOLE 009 3215\nSPOOL 00C READER\nSPOOL 00D PUNCH\nSPOOL 00E PRINTER\n"
 LISTING = f"{TOP}/examples/machines/card-listing/BARE.asm"
 NAMES = [
     "AMDAHL, GENE           360",
@@ -96,9 +95,6 @@ class Place(Site):
     def token(self) -> str:
         with open(f"{self.record}.web-token") as file:
             return file.read().strip()
-
-    def told_memory(self) -> str:
-        return f"command {memory_of(self.process.pid) // 1024} MB, program {memory_of(self.program()) // 1024} MB"
 
 
 class Wire:

@@ -15,6 +15,8 @@ import sys
 import tempfile
 import time
 
+from tests.lib.host import memory_of
+
 # what somebody is reported who has come
 BANNER = "GATHJUMLI ONLINE: TYPE LOGON NAME"
 # how long anything that has to come may take
@@ -103,6 +105,11 @@ class Site:
             with contextlib.suppress(ProcessLookupError):
                 os.kill(child, signal.SIGKILL)
         self.process.communicate()
+
+    def told_memory(self) -> str:
+        """How much memory the command and its program had at most."""
+        sizes = [memory_of(process) // 1024 for process in (self.process.pid, self.program())]
+        return f"command {sizes[0]} MB, program {sizes[1]} MB"
 
     def session(self) -> str:
         """The name of the session that is under way."""
@@ -217,8 +224,9 @@ run = asyncio.run
 
 # --- sites with three users ---
 
+DEVICES = "CONSOLE 009 3215\nSPOOL 00C READER\nSPOOL 00D PUNCH\nSPOOL 00E PRINTER\n"
 DIRECTORY = "".join(
-    f"USER {name} {password} 64K\nCONSOLE 009 3215\nSPOOL 00C READER\nSPOOL 00D PUNCH\nSPOOL 00E PRINTER\n"
+    f"USER {name} {password} 64K\n{DEVICES}"
     for name, password in (("ALICE", "WONDER"), ("BOB", "BUILDER"), ("OPER", "SECRET"))
 )
 
