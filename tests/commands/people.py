@@ -30,7 +30,23 @@ PEOPLE = f"{TOP}/tests/commands/recorded"
 RECORDING = f"{PEOPLE}/recording"
 sys.path[:0] = [TOP, f"{TOP}/bin/lib"]
 from tests.commands import broken, growth, scripts_for_people, state_commands, watching
-from tests.installation import basics, faults, figures, keeping, maps, operators, page_tables, proxies, reload, replays, spool, states, strangers, strays, watchdog
+from tests.installation import (
+    basics,
+    faults,
+    figures,
+    keeping,
+    maps,
+    operators,
+    page_tables,
+    proxies,
+    reload,
+    replays,
+    spool,
+    states,
+    strangers,
+    strays,
+    watchdog,
+)
 from tests.lib import desk
 from tests.lib.counting import Counts
 from tests.lib.files import read, write

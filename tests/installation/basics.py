@@ -13,7 +13,17 @@ import time
 
 from tests.lib.files import names_in, read, write
 from tests.lib.images import blank_image
-from tests.lib.sites import BANNER, PRINTS, logged_on, make_site, person, processor_ticks, replayed, run, until_so
+from tests.lib.sites import (
+    BANNER,
+    PRINTS,
+    logged_on,
+    make_site,
+    person,
+    processor_ticks,
+    replayed,
+    run,
+    until_so,
+)
 
 TELLS = re.compile("([0-9:]{8}) (.*)")
 

@@ -24,7 +24,15 @@ from gathjumli.spooling import WAITS, WRITTEN
 from gathjumli.tls import tls_of
 from gathjumli.users import User
 from gathjumli.web_operator import OperatorPage, OperatorPages
-from gathjumli.web_pages import MESSAGES_AT_ONCE, MESSAGES_A_SECOND, MOST_DECK, Outbox, Pages, Rate, SECONDS_TO_COME_BACK
+from gathjumli.web_pages import (
+    MESSAGES_AT_ONCE,
+    MESSAGES_A_SECOND,
+    MOST_DECK,
+    Outbox,
+    Pages,
+    Rate,
+    SECONDS_TO_COME_BACK,
+)
 from gathjumli.web_requests import HEADERS, POLICY, answer_to, read_files
 from tests.lib.files import write
 from tests.lib.sites import BANNER, PATIENCE, run

@@ -621,14 +621,20 @@ def try_end_steps(check: Check, site: Site) -> None:
     check("volumes are saved", read(volume) != before)
 
 
-def try_changed_volume(check: Check, site: Site) -> None:
-    """A volume that somebody else changed during a session stays, and the next session says what can be done."""
+def changed_volume(check: Check, site: Site) -> str:
+    """A volume that somebody else has changed during a session, which has ended."""
     volume = add_volume(site)
     site.online()
     run(stored(site, 4))
     write(volume, blank_image("V2", 1))
     site.operate("end now")
     check("it ends", site.ended() == 0, *site.findings)
+    return volume
+
+
+def try_changed_volume(check: Check, site: Site) -> None:
+    """A volume that somebody else changed during a session stays, and the next session says what can be done."""
+    volume = changed_volume(check, site)
     check("the volume stays", read(volume) == blank_image("V2", 1))
     site.start()
     holds = site.await_message("or start with --without-machines") and site.ended() == 1
@@ -641,12 +647,7 @@ def try_changed_volume(check: Check, site: Site) -> None:
 
 def try_mended_volume(check: Check, site: Site) -> None:
     """The end and the next start name the file that mends a changed volume; with it the machines go on."""
-    volume = add_volume(site)
-    site.online()
-    run(stored(site, 4))
-    write(volume, blank_image("V2", 1))
-    site.operate("end now")
-    check("it ends", site.ended() == 0, *site.findings)
+    volume = changed_volume(check, site)
     own = next(
         f"{site.folder}/{name}" for name in names_in(site.folder) if name.startswith("volume.")
     )
