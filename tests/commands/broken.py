@@ -409,8 +409,8 @@ OPTIONS = {name: number(0, 1000000) for name in NUMBERS} | {"--program": str}
 
 
 def main() -> None:
-    counted = Counts()
-    check = counted.check
+    totals = Counts()
+    check = totals.check
     found, names = read_arguments(sys.argv[1:], OPTIONS, 0, 3)
     every, scripts, states, one_of, seed = (
         last(found[name], usual) for name, usual in NUMBERS.items()
@@ -422,7 +422,7 @@ def main() -> None:
         print("breaks in tables:", try_tables(check, program, max(1, one_of), seed))
     if "spoiled" in names or not names:
         print("taken and refused:", *try_spoiled(check, program, states, seed))
-    sys.exit(counted.report())
+    sys.exit(totals.report())
 
 
 if __name__ == "__main__":

@@ -74,8 +74,8 @@ WORDS |= {name: ["o"] for name in ("img2vol", "vol2img", "printouts")}
 # of a file for the operator; a card that looks like one has blanks after it
 HEADING = re.compile(b"^== P(?:RT|UN) [0-9]{4} [A-Z0-9]+\n", re.M)
 
-counted = Counts()
-check = counted.check
+totals = Counts()
+check = totals.check
 
 
 # --- programs that are played ---
@@ -1438,7 +1438,7 @@ def main() -> None:
         basics.try_all(check, repository, f"{folder.name}/sites", is_stand_in=False)
         try_over_programs(repository, folder.name)
         try_states(repository, f"{folder.name}/state commands")
-        sys.exit(counted.report())
+        sys.exit(totals.report())
     for test in chosen([word for word in sys.argv[1:] if word != "--record"]):
         work = tempfile.mkdtemp()
         path = os.environ["PATH"]
@@ -1449,7 +1449,7 @@ def main() -> None:
             shutil.rmtree(work)
     if sys.argv[1:] == ["--record"]:
         record(folder.name)
-    sys.exit(counted.report())
+    sys.exit(totals.report())
 
 
 main()

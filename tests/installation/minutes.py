@@ -47,8 +47,8 @@ PRINTS_FOR_EVER = ["STORE 48 00000800", "STORE 800 0900084020000078", "STORE 100
 # the time of the lines that follow, as one who appears back sees it
 TIME = re.compile(r"-- [0-9: -]{16} UTC")
 
-counted = Counts()
-check = counted.check
+totals = Counts()
+check = totals.check
 
 
 def replays(town: object) -> tuple:
@@ -857,7 +857,7 @@ def main() -> None:
     found, names = read_arguments(sys.argv[1:], OPTIONS, 0, 100)
     options = {name.removeprefix("--"): last(found[name], usual) for name, usual in USUAL.items()}
     do_parts(PARTS, names, options, "minutes")
-    sys.exit(counted.report())
+    sys.exit(totals.report())
 
 
 main()

@@ -30,8 +30,8 @@ module=stand_in
 exec '{python}' -Bc "import sys; sys.path.insert(0, '{top}'); from tests.lib.$module import stand_in; stand_in(sys.argv[1:])" "$@"
 """
 
-counted = Counts()
-check = counted.check
+totals = Counts()
+check = totals.check
 
 
 def need_packages() -> None:
@@ -152,7 +152,7 @@ def try_all() -> None:
         print(*lines[:-1], sep="\n", flush=True)
         counts = re.fullmatch(r"(\d+) passed, (\d+) failed", lines[-1] if lines else "")
         check("a group of cases ends", counts, *lines[-1:])
-        counted.add(*map(int, counts.groups() if counts else (0, 0)))
+        totals.add(*map(int, counts.groups() if counts else (0, 0)))
 
 
 def main() -> None:
@@ -174,7 +174,7 @@ def main() -> None:
         store_cases.kill_all()
         shutil.rmtree(work, ignore_errors=True)
     print(f"{time.monotonic() - begun:.0f} s", file=sys.stderr)
-    sys.exit(counted.report())
+    sys.exit(totals.report())
 
 
 if __name__ == "__main__":

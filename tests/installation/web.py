@@ -65,8 +65,8 @@ UNLABELLED = """
 return [...document.querySelectorAll("input, button, [role], section")].filter((found) => !found.labels?.length && !found.textContent.trim()
   && !found.getAttribute("aria-label") && !found.closest("[hidden]") && found.getAttribute("role") !== "status").map((found) => found.outerHTML);
 """
-counted = Counts()
-check = counted.check
+totals = Counts()
+check = totals.check
 
 
 class Place(Site):
@@ -928,7 +928,7 @@ def main() -> None:
         "pictures": last(found["--pictures"], None),
     }
     do_parts(PARTS, names, options, "web")
-    sys.exit(counted.report())
+    sys.exit(totals.report())
 
 
 main()

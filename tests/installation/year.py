@@ -56,8 +56,8 @@ STOPPED = "STOPPED DISABLED WAIT"
 CLOSED = re.compile(r"FILE \d+ CLOSED")
 ENDED = re.compile(r"recording\.(\d{4}-\d\d-\d\d)-\d{6}")
 
-counted = Counts()
-check = counted.check
+totals = Counts()
+check = totals.check
 
 
 class Clock:
@@ -385,7 +385,7 @@ def main() -> None:
         signal.signal(signal.SIGTERM, lambda *_: setattr(year, "is_over", True))
         year.run()
         year.judge()
-    sys.exit(counted.report())
+    sys.exit(totals.report())
 
 
 main()

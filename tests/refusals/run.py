@@ -40,8 +40,8 @@ REFUSED_PROGRAM = """#!/bin/sh
 LD_PRELOAD="$LIBRARY" REFUSE="$REFUSED" exec "$PROGRAM" "$@"
 """
 
-counted = Counts()
-check = counted.check
+totals = Counts()
+check = totals.check
 counts = {}
 
 
@@ -763,7 +763,7 @@ def main() -> int:
         shutil.rmtree(work)
     for what, number in counts.items():
         print(f"{what}: {number}")
-    return counted.report()
+    return totals.report()
 
 
 sys.exit(main())

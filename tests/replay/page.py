@@ -57,8 +57,8 @@ OPTIONS = (
     "--disable-background-networking --remote-debugging-pipe"
 ).split()
 
-counted = Counts()
-check = counted.check
+totals = Counts()
+check = totals.check
 # where the commands are
 place = TOP
 
@@ -492,7 +492,7 @@ def main() -> None:
             check("the page reports no fault", not browser.faults, *browser.faults[:3])
         finally:
             browser.close()
-    sys.exit(counted.report())
+    sys.exit(totals.report())
 
 
 main()
