@@ -1,6 +1,5 @@
-#!/usr/bin/env python3
-"""States of an installation: what a start takes and refuses, and kills between the steps of saving. Called by tests/commands/people.py.
-installation_states.py --killed STEP COMMAND WORD.. runs a command that dies at a step."""
+"""States of an installation: what a start takes and refuses, and kills between the steps of saving. Called by
+tests/commands/people.py."""
 from __future__ import annotations
 
 from collections.abc import Callable
@@ -17,6 +16,7 @@ import sys
 from tests.installation.basics import without_sums
 from tests.lib.files import names_in, read, write
 from tests.lib.images import blank_image
+from tests.lib.places import TOP
 from tests.lib.sites import PRINTS, Site, make_site, on, replayed, run, sizes_of, until_so
 
 Check = Callable[..., None]
@@ -123,10 +123,8 @@ def run_killed(step: str, command: str, *words: str) -> None:
 def killed_site(command: str, folder: str, *words: str) -> Site:
     """An installation that dies at the step which the environment names."""
     site = make_site(f"{folder}/installation", folder, *words)
-    own = os.path.realpath(__file__)
-    text = (
-        f'#!/bin/sh\nexec "{sys.executable}" -B "{own}" --killed "$PEOPLE_STEP" "{command}" "$@"\n'
-    )
+    begun = f"import sys; sys.path.insert(0, '{TOP}'); from tests.installation.states import run_killed; run_killed(*sys.argv[1:])"
+    text = f'#!/bin/sh\nexec "{sys.executable}" -Bc "{begun}" "$PEOPLE_STEP" "{command}" "$@"\n'
     write(site.command, text)
     os.chmod(site.command, 0o755)
     os.environ["PEOPLE_STEP"] = ""
@@ -932,7 +930,3 @@ def try_over_program(check: Check, command: str, program: str, folder: str) -> N
     # the report has the program for frames built
     try_kept_machines(check, make_site(command, f"{folder}/kept"), program, has_frames=True)
     try_end_steps(check, killed_site(command, f"{folder}/end steps"))
-
-
-if __name__ == "__main__" and sys.argv[1:2] == ["--killed"]:
-    run_killed(*sys.argv[2:])
