@@ -6,6 +6,20 @@
 
 # --- words and files, judged before any build ---
 
+# the paths of a run, and how many words are before the volumes: read_script_path FIRST. A run part by part has no script
+read_script_path() {
+    script=
+    [ -z "${option_terminals-}" ] || [ -n "${option_follow-}" ] || usage_error '--terminals is for --follow'
+    if [ -n "${option_follow-}" ]; then
+        need_paths "$1" '[..]'
+        number=2
+    else
+        need_paths "$1" SCRIPT '[..]'
+        script=$path2
+        number=3
+    fi
+}
+
 # the words of a command over a directory, a script and volumes, or with --follow no script: read_run_arguments MORE_OPTIONS WORD..
 read_run_arguments() {
     more=$1
@@ -14,16 +28,7 @@ read_run_arguments() {
     # fewer than 16 frames are refused when the system boots
     check_number --frames "${option_frames-64}" 0 4096 16
     check_number --slots "${option_slots-256}" 0 65536
-    script=
-    [ -z "${option_terminals-}" ] || [ -n "${option_follow-}" ] || usage_error '--terminals is for --follow'
-    if [ -n "${option_follow-}" ]; then
-        need_paths DIRECTORY '[..]'
-        number=2
-    else
-        need_paths DIRECTORY SCRIPT '[..]'
-        script=$path2
-        number=3
-    fi
+    read_script_path DIRECTORY
     check_texts "$@"
     read_standard_input 1
     script=${script:+$path2}
@@ -75,17 +80,8 @@ read_bare_arguments() {
     more=$1
     shift
     read_arguments "save $more" "$@"
-    script=
     storage=
-    [ -z "${option_terminals-}" ] || [ -n "${option_follow-}" ] || usage_error '--terminals is for --follow'
-    if [ -n "${option_follow-}" ]; then
-        need_paths STORAGE '[..]'
-        number=2
-    else
-        need_paths STORAGE SCRIPT '[..]'
-        script=$path2
-        number=3
-    fi
+    read_script_path STORAGE
     check_storage "$path1"
     storage=$path1
     [ "$count" -le $((15 + number)) ] || usage_error "a machine has at most 16 volumes, and these are $((count - number + 1))"

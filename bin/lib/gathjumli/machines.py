@@ -9,7 +9,7 @@ import subprocess
 import tempfile
 
 from gathjumli.cli import (
-    FILE_FAILED, Failure, REFUSED, ROOT, UNPROVED, UsageError, ask_build, last, number, read_file, read_arguments, user_name,
+    FILE_FAILED, Failure, REFUSED, ROOT, UNPROVED, UsageError, ask_build, number, read_file, read_arguments, user_name,
     version,
 )  # fmt: skip
 from gathjumli.reasons import reason
@@ -252,6 +252,14 @@ def of_directory(directory: Any, sizes: Any, volumes: Any) -> Any:
 
 
 SIZE_OPTIONS = {"--frames": number(16, 4096), "--slots": number(0, 65536)}
+
+
+def sizes_in(found: dict[str, list]) -> list[str]:
+    """The words for frames and slots among options that were read."""
+    given = [option for option in SIZE_OPTIONS if found[option]]
+    return [word for option in given for word in (option, str(found[option][-1]))]
+
+
 # for each command that runs a program
 UNPROVED_OPTION = {"--unproved": None}
 
@@ -273,13 +281,11 @@ def read_machines(words: list[str], options: Any, paths_after: Any) -> tuple:
     for path in [*trailing, *volumes]:
         with open(path, "rb"):
             pass
-    frames, slots = last(found["--frames"], None), last(found["--slots"], None)
+    sizes = sizes_in(found)
     if found["--bare"]:
-        if frames is not None or slots is not None:
+        if sizes:
             raise UsageError("a machine of its own has no frames and slots")
         return of_bare(first, volumes), found, trailing
-    sizes = [] if frames is None else ["--frames", str(frames)]
-    sizes += [] if slots is None else ["--slots", str(slots)]
     return of_directory(first, sizes, volumes), found, trailing
 
 

@@ -1,15 +1,15 @@
 """Searches in a run: the moment at which the next instruction is at an address, or at which a register or a word of storage is another one.
-Forward, a program goes unit by unit and is asked by DISPLAY after each. Back, states are compared first, and only what is between two of
-them is gone through."""
+Forward, a program seeks it (SEEK), or goes unit by unit and is asked by DISPLAY after each. Back, states are compared first, and only
+what is between two of them is gone through."""
 from __future__ import annotations
 
 from bisect import bisect_left
-from collections.abc import Iterator
+from collections.abc import Callable, Iterator
 import time
 from typing import Any, NamedTuple
 
 from gathjumli.cli import Failure, REFUSED
-from gathjumli.following import Program
+from gathjumli.following import PartResult, Program
 from gathjumli.moments import Moments
 from gathjumli.run_steps import Step
 from gathjumli.state_view import PAGE, UserView
@@ -19,7 +19,9 @@ KINDS = (ADDRESS, REGISTER, WORD)
 # units whose answers are asked for at once, as many as are answered soon: so a search can be stopped
 FEWEST_AT_ONCE, MOST_AT_ONCE = 100, 4_000
 SOON = 0.3
-# units and events of others that are done at once, for each of these
+# where what is sought was found after fewer units, these are gone through one by one
+DENSE = 16
+# units and events of others, and units that are sought, that are done at once, for each of these
 OTHERS = 25
 MOST_SECONDS = 60.0
 NO_FRAME = "the search finds no frame for what it asks about: look unit by unit"
@@ -45,6 +47,14 @@ class Hit(NamedTuple):
     by: int | None
 
 
+class Stretch(NamedTuple):
+    """Units of the user one after another: the moment before them, and how many."""
+
+    event: int
+    unit: int
+    count: int
+
+
 class Asked:
     """What is asked at each moment of a search, by DISPLAY, and what it was before."""
 
@@ -55,8 +65,13 @@ class Asked:
         asked = {ADDRESS: "PSW", REGISTER: f"G{number}", WORD: row}[kind]
         heads = {ADDRESS: "PSW ", REGISTER: f"GPR {number} = ", WORD: f"{row} "}
         self.head, self.psw_head = f"{user}: {heads[kind]}", f"{user}: {heads[ADDRESS]}"
+        # what begins the line that ends a run or a serve of the user
+        self.end = f"= {user} "
         names = [asked, "PSW"] if wanted.passed_over else [asked]
         self.question = "".join(f"LINE {user} #CP DISPLAY {name}\n" for name in names).encode()
+        # what a program seeks for it
+        letter = {ADDRESS: "I", REGISTER: "G", WORD: "W"}[kind]
+        self.sought = f"{letter} {number & (0xFFFFFC if kind == WORD else 0xFFFFFF):06X}"
         # how many lines answer it
         self.lines = len(names)
         self.before = ""
@@ -80,6 +95,20 @@ class Asked:
         answer = program.do(self.question).events[-self.lines :] or [""]
         self.before, self.next = self.value(answer[0]), self.next_in(answer)
 
+    def found(self, program: Program, where: Where) -> Iterator[Hit]:
+        """The hit at which a program has ended to seek; none of a machine that is off."""
+        answer = program.do(self.question).events[-self.lines :] or [""]
+        value = self.value(answer[0])
+        if self.is_hit(value):
+            yield Hit(where, self.before, value, None)
+        self.before = value or self.before
+
+    def count(self, events: list[str]) -> int:
+        """How many units of the user these lines are of, which were sought."""
+        count = sum(line.startswith(self.end) for line in events)
+        self.units += count
+        return count
+
     def next_in(self, answer: list[str]) -> int | None:
         """The address of the next instruction, if it was asked."""
         if self.lines == 1 or not answer[-1].startswith(self.psw_head):
@@ -89,8 +118,8 @@ class Asked:
     def judge(self, places: list[Where], events: list[str]) -> Iterator[Hit]:
         """The hits. The answer to a question is the lines after that which ends a run or a serve of the user, or the last lines."""
         self.units += len(places)
-        end, count = f"= {self.wanted.user} ", self.lines
-        begins = [at + 1 for at, line in enumerate(events) if line.startswith(end)]
+        count = self.lines
+        begins = [at + 1 for at, line in enumerate(events) if line.startswith(self.end)]
         begins = [max(0, len(events) - count)] if len(places) == 1 else begins
         answers = [events[at : at + count] for at in begins]
         if len(answers) != len(places) or not all(map(self.is_answer, answers)):
@@ -126,6 +155,8 @@ class Search:
         self.asked = Asked(wanted)
         self.begun = time.monotonic()
         self.at_once = FEWEST_AT_ONCE
+        # whether what was found lately was found after few units
+        self.is_dense = False
         # the last moment that was looked at
         self.at: Where | None = None
         # whether anybody still waits for it
@@ -212,18 +243,57 @@ class Search:
         found = None
         try:
             self.asked.start(program)
-            for places, part in self.parts_between(first, end):
-                for hit in self.asked.judge(places, self.done_soon(program, part)):
-                    found = found if self.is_passed_over(hit) else hit
-                    if found and not is_last:
-                        return found
-                self.at = places[-1] if places else self.at
-                if not self.is_wanted() or time.monotonic() - self.begun > MOST_SECONDS:
-                    self.asked.is_late = True
+            for hit in self.hits_between(program, first, end):
+                found = found if self.is_passed_over(hit) else hit
+                if found and not is_last:
                     return found
             return found
         finally:
             program.close()
+
+    def hits_between(self, program: Program, first: Where, end: Where | None) -> Iterator[Hit]:
+        """The hits from a moment to another one, while somebody waits for them."""
+        for part in self.parts_between(first, end):
+            if isinstance(part, Stretch):
+                yield from self.hits_in(program, part)
+            else:
+                yield from self.judged(program, *part)
+            if self.is_left():
+                return
+
+    def is_left(self) -> bool:
+        """Whether nobody waits any more, or it took too long."""
+        if not self.asked.is_late:
+            is_late = time.monotonic() - self.begun > MOST_SECONDS
+            self.asked.is_late = not self.is_wanted() or is_late
+        return self.asked.is_late
+
+    def judged(self, program: Program, places: list[Where], part: bytes) -> Iterator[Hit]:
+        """The hits of a part with questions."""
+        yield from self.asked.judge(places, self.done_soon(program, part))
+        self.at = places[-1] if places else self.at
+
+    def hits_in(self, program: Program, stretch: Stretch) -> Iterator[Hit]:
+        """The hits among units one after another: they are sought, or where there are many, gone through."""
+        event, unit, left = stretch
+        while left and not self.asked.is_late:
+            is_sought = not self.is_dense and not self.wanted.passed_over
+            count = min(OTHERS * self.at_once if is_sought else self.at_once, left)
+            if is_sought:
+                answer = self.soon(lambda: program.seek(self.asked.sought, self.wanted.user, count))
+                count = self.asked.count(answer.events)
+                if answer.is_found:
+                    yield from self.asked.found(program, (event, unit + count))
+                self.is_dense = answer.is_found and count < DENSE
+            else:
+                places = [(event, unit + number + 1) for number in range(count)]
+                one = f"RUN {self.wanted.user} 1\n".encode() + self.asked.question
+                hits = list(self.judged(program, places, one * count))
+                yield from hits
+                self.is_dense = DENSE * len(hits) > count
+            unit, left = unit + count, left - count
+            self.at = event, unit
+            self.is_left()
 
     def is_passed_over(self, hit: Hit) -> bool:
         """Whether a change is by an instruction that is not looked for; a typed line and a device are none."""
@@ -232,22 +302,35 @@ class Search:
         return is_by_unit and hit.by in self.wanted.passed_over
 
     def done_soon(self, program: Program, part: bytes) -> list[str]:
-        """What a part prints. The next ones are larger if it took little time, and smaller if it took much."""
+        """What a part prints."""
+        return self.soon(lambda: program.do(part)).events
+
+    def soon(self, ask: Callable[[], PartResult]) -> PartResult:
+        """An answer. The next questions are for more units if it took little time, and for fewer if it took much."""
         begun = time.monotonic()
-        events = program.do(part).events
+        answer = ask()
         is_soon = time.monotonic() - begun < SOON
         size = 2 * self.at_once if is_soon else self.at_once // 2
         self.at_once = max(FEWEST_AT_ONCE, min(size, MOST_AT_ONCE))
-        return events
+        return answer
 
-    def parts_between(self, first: Where, end: Where | None) -> Iterator[tuple[list[Where], bytes]]:
-        """What the program is given from a moment to another one, and which moments the questions in it are of. What other users do
-        changes neither registers nor storage of this one, so nothing is asked then."""
+    def parts_between(
+        self, first: Where, end: Where | None
+    ) -> Iterator[tuple[list[Where], bytes] | Stretch]:
+        """What the program is given from a moment to another one, and which moments the questions in it are of; or units one after
+        another. What other users do changes neither registers nor storage of this one, so nothing is asked then.
+        """
         places: list[Where] = []
         text: list[bytes] = []
         work = 0
         for where, step, stop in self.events_between(first, end):
             is_typed = step.kind in ("LINE", "TICK")
+            if step.kind == "RUN" and step.user == self.wanted.user:
+                if text:
+                    yield places, b"".join(text)
+                    places, text, work = [], [], 0
+                yield self.stretch_of(where, step, stop)
+                continue
             for asked, part in self.parts_of(where, step, stop):
                 if (
                     len(places) >= self.at_once
@@ -286,18 +369,13 @@ class Search:
             if stop is None and step.kind != "IDLE":
                 yield [], self.text_of(step, unit)
             return
-        if step.kind != "RUN":
-            yield [(event + 1, 0)], self.text_of(step, unit) + question
-            return
-        last = step.units if stop is None else stop
-        one = f"RUN {step.user} 1\n".encode() + question
-        while unit < last:
-            count = min(self.at_once, last - unit)
-            yield [(event, unit + number + 1) for number in range(count)], one * count
-            unit += count
-        if stop is None and step.reason != "COUNT":
-            # that which ends it, as a wait, is an attempt of one unit more
-            yield [(event + 1, 0)], one
+        yield [(event + 1, 0)], self.text_of(step, unit) + question
+
+    def stretch_of(self, where: Where, step: Step, stop: int | None) -> Stretch:
+        """The units of a run. That which ends it, as a wait, is an attempt of one unit more."""
+        event, unit = where
+        attempt = stop is None and step.reason != "COUNT"
+        return Stretch(event, unit, (step.units if stop is None else stop) - unit + attempt)
 
     def text_of(self, step: Step, unit: int) -> bytes:
         """The lines by which an event is done, or the rest of it."""

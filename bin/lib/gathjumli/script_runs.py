@@ -11,10 +11,10 @@ from gathjumli.cli import Failure, REFUSED, last, read_arguments, read_file
 from gathjumli.following import Program
 from gathjumli.machines import (
     Machines,
-    SIZE_OPTIONS,
     ScriptRefused,
     of_bare,
     refused_line,
+    sizes_in,
     stated,
 )
 from gathjumli.script_lines import Event, UNTIL_ALL_WAIT, Wrong, events_of, plain
@@ -181,9 +181,7 @@ def command(words: list[str]) -> None:
     # the script may be a copy of what has this name
     program_path, part, shown, *words = words
     found, (first, script, *volumes) = read_arguments(words, OPTIONS, 2, 1000)
-    sizes = [
-        word for option in SIZE_OPTIONS for value in found[option] for word in (option, str(value))
-    ]
+    sizes = sizes_in(found)
     is_bare = part == "bare370"
     # what is wrong with a directory the program says
     own = Machines("vm370", [*sizes, first], volumes, {}, {})

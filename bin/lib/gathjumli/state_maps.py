@@ -9,7 +9,7 @@ import tempfile
 from gathjumli import cli
 from gathjumli.cli import last, read_arguments
 from gathjumli.following import STATE_REFUSED, StateRefused
-from gathjumli.machines import SIZE_OPTIONS, failure, of_directory
+from gathjumli.machines import SIZE_OPTIONS, failure, of_directory, sizes_in
 from gathjumli.state_files import OTHER_VOLUMES, state_of, write_bytes
 
 OPTIONS = {"--save": None, "--state": str} | SIZE_OPTIONS
@@ -18,9 +18,7 @@ OPTIONS = {"--save": None, "--state": str} | SIZE_OPTIONS
 def command(words: list[str]) -> None:
     path, *words = words
     found, (directory, script, *volumes) = read_arguments(words, OPTIONS, 2, 1000)
-    sizes = [
-        word for option in SIZE_OPTIONS for value in found[option] for word in (option, str(value))
-    ]
+    sizes = sizes_in(found)
     machines = of_directory(directory, sizes, volumes)
     state = state_of(last(found["--state"], None), machines)
     save = ["--save"] if found["--save"] else []

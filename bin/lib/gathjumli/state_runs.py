@@ -7,7 +7,7 @@ import sys
 from gathjumli import cli
 from gathjumli.cli import Failure, REFUSED, last, read_arguments, read_file
 from gathjumli.following import Answers, PartResult, Program, SavedState
-from gathjumli.machines import Machines, SIZE_OPTIONS, ScriptRefused, of_directory
+from gathjumli.machines import Machines, SIZE_OPTIONS, ScriptRefused, of_directory, sizes_in
 from gathjumli.state_files import NOBODY, StateFile, after, restore, save_state, state_of
 
 # what is before an entry of a file in an answer, and not in a transcript
@@ -83,9 +83,7 @@ def run(program: Program, script: bytes, state: StateFile | None) -> tuple:
 def command(words: list[str]) -> None:
     path, *words = words
     found, (directory, script, *volumes) = read_arguments(words, OPTIONS, 2, 1000)
-    sizes = [
-        word for option in SIZE_OPTIONS for value in found[option] for word in (option, str(value))
-    ]
+    sizes = sizes_in(found)
     machines = of_directory(directory, sizes, volumes)
     machines.path = path
     given, to = last(found["--state"], None), last(found["--save-state"], None)

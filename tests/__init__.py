@@ -1,0 +1,1 @@
+"""Tests of Gathjumli: CONTRIBUTING.md says which there are."""
