@@ -19,7 +19,7 @@ KINDS = (ADDRESS, REGISTER, WORD)
 # units whose answers are asked for at once, as many as are answered soon: so a search can be stopped
 FEWEST_AT_ONCE, MOST_AT_ONCE = 100, 4_000
 SOON = 0.3
-# where what is sought was found after fewer units, these are gone through one by one
+# if the last find came after fewer units than these, the next units are gone through one by one
 DENSE = 16
 # units and events of others, and units that are sought, that are done at once, for each of these
 OTHERS = 25
