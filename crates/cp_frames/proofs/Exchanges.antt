@@ -61,7 +61,7 @@ new_slot f frame kept lt q h =
 
 -- The pool stays sound when a frame and a slot change their pages.
 pub exchange-kept : (f : Inside) (frame slot end low : ℕ) → IsKept f → frame < length f.owners.items
-    → slot < length f.slot_owners.items → get_or f.pins.items frame false ≡ false → end ≡ length f.order.items
+    → slot < length f.slot_owners.items → get_or f.pins frame false ≡ false → end ≡ length f.order
     → All IsSome (take low (set f.slot_owners.items slot (get_or f.owners.items frame None))) →
     IsSound (set f.frames.items frame (get_or f.slots.items slot []))
     (set f.slots.items slot (get_or f.frames.items frame []))
@@ -72,8 +72,8 @@ pub exchange-kept : (f : Inside) (frame slot end low : ℕ) → IsKept f → fra
     (reported frame_entry (get_or f.slot_owners.items slot None) (Some frame)
     (reported frame_entry (get_or f.owners.items frame None) None f.lookup.items))
     (reported slot_entry (get_or f.owners.items frame None) (Some slot)
-    (reported slot_entry (get_or f.slot_owners.items slot None) None f.slot_table.items)) f.pins.items f.is_marked
-    f.order.items end low
+    (reported slot_entry (get_or f.slot_owners.items slot None) None f.slot_table.items)) f.pins
+    f.order end low
 exchange-kept f frame slot end low kept lt less unpinned all before = record {
   frame_room = rw (length-set, length-set) kept.frame_room;
   slot_room = rw (length-set, length-set) kept.slot_room;
@@ -88,12 +88,11 @@ exchange-kept f frame slot end low kept lt less unpinned all before = record {
   slots_tabled = tabled-set slot_entry f.slot_owners.items f.sizes.items f.slot_table.items slot
       (get_or f.owners.items frame None) (once_right f.owners.items f.slot_owners.items kept.whole.once)
       (small_right f kept) kept.slots_tabled less (new_slot f frame kept lt);
-  ordered = ordered-set f.owners.items f.pins.items f.order.items frame (get_or f.slot_owners.items slot None)
+  ordered = ordered-set f.owners.items f.pins f.order frame (get_or f.slot_owners.items slot None)
       kept.ordered unpinned;
-  unmarked = kept.unmarked;
   sought = record {
     within = omega arith;
-    taken = none_taken (set f.owners.items frame (get_or f.slot_owners.items slot None)) f.order.items end
+    taken = none_taken (set f.owners.items frame (get_or f.slot_owners.items slot None)) f.order end
         (omega arith);
     before = before;
   };

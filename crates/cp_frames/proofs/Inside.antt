@@ -21,7 +21,7 @@ bytes_in f user = get_or (storages_of (places_in f) (owners_in f) f.sizes.items)
 
 abbrev pub IsKept : Inside → Type 0
 IsKept f = IsSound f.frames.items f.slots.items f.owners.items f.slot_owners.items f.sizes.items f.tables.items
-    f.lookup.items f.slot_table.items f.pins.items f.is_marked f.order.items f.end f.low
+    f.lookup.items f.slot_table.items f.pins f.order f.end f.low
 
 -- an address of the user has an entry in the list next to the tables, which says the frame of its page
 pub look_place : (f : Inside) (user start : ℕ) → IsKept f → start < length (bytes_in f user)

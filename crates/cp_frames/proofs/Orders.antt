@@ -1,5 +1,5 @@
 -- The frames in the order in which their pages came, and what is so of the parts of Frames.
-use Rattle.std.proofs.Common.{◌≡◌, ◌≢◌, ℕ, zero, suc, ◌+◌, ◌*◌, ◌<◌, List, [], ◌∷◌, ◌++◌, length, get_or, take, drop}
+use Rattle.std.proofs.Common.{◌≡◌, ◌≢◌, ℕ, zero, suc, ◌+◌, ◌*◌, ◌<◌, List, [], ◌∷◌, ◌++◌, length, get_or, drop}
 use Rattle.std.proofs.Common.{Bool, true, false, Option, Some, None, refl, get_or-set_other, get_or-set_same, sym, ◌∙◌}
 use Rattle.std.proofs.Common.{ap, arith, zero-add}
 use Rattle.std.proofs.Math.Decide.{dec_lt}
@@ -110,18 +110,6 @@ ordered-last owners pins order turn ordered lt =
       each = IsPermutation-trans _ _ _ ordered.each
           (IsPermutation-trans _ _ _ front (IsPermutation-sym _ _ (IsPermutation-to_front (remove order turn) x)));
     }
-
--- what a slice of a whole vector leaves of it
-pub written_back : {X : Type 0} (xs ys : List X) (n : ℕ) → length xs ≡ n → length ys ≡ n
-    → take n (xs ++ drop (length xs) ys) ≡ xs
-written_back {X} xs ys n e f = back_from xs ys n e f where
-  back_from : (us vs : List X) (m : ℕ) → length us ≡ m → length vs ≡ m → take m (us ++ drop (length us) vs) ≡ us
-  back_from [] [] zero e f = refl
-  back_from [] (v ∷ vs) zero e f = refl
-  back_from [] vs (suc m) e f = absurd (omega arith)
-  back_from (u ∷ us) [] m e f = absurd (omega arith)
-  back_from (u ∷ us) (v ∷ vs) zero e f = absurd (omega arith)
-  back_from (u ∷ us) (v ∷ vs) (suc m) e f = ap (λ zs. u ∷ zs) (back_from us vs m (omega arith) (omega arith))
 
 -- What follows from a value holds of a value that is there.
 pub if_some : {X : Type 0} (o : Option X) (P Q : X → Type 0) → ((x : X) → P x → Q x) → IfSome o P → IfSome o Q

@@ -31,13 +31,13 @@ both_cleared user owners slots = map-append (without user) owners slots
 
 -- The pool stays sound when a user's pages are released.
 pub released-kept : (f : Inside) (user : ℕ) (tables lookup slot_table : List ℕ) (end : ℕ) → IsKept f
-    → f.pins.items ≡ replicate (length f.pins.items) false →
+    → f.pins ≡ replicate (length f.pins) false →
     IsMapped (cleared_of user f.owners.items) f.sizes.items tables
     → IsTabled frame_entry (cleared_of user f.owners.items) f.sizes.items lookup
     → IsTabled slot_entry (cleared_of user f.slot_owners.items) f.sizes.items slot_table
-    → end ≡ length f.order.items →
+    → end ≡ length f.order →
     IsSound f.frames.items f.slots.items (cleared_of user f.owners.items) (cleared_of user f.slot_owners.items)
-    f.sizes.items tables lookup slot_table f.pins.items f.is_marked f.order.items end 0
+    f.sizes.items tables lookup slot_table f.pins f.order end 0
 released-kept f user tables lookup slot_table end kept blank mapped looked slots_tabled all = record {
   frame_room = rw length-map kept.frame_room;
   slot_room = rw length-map kept.slot_room;
@@ -50,13 +50,12 @@ released-kept f user tables lookup slot_table end kept blank mapped looked slots
   ordered = record {
     frames = rw length-map kept.ordered.frames;
     marks = rw length-map kept.ordered.marks;
-    used = λ k e. absurd (never_pinned (length f.pins.items) k (ap (λ ps. get_or ps k false) (sym blank) ∙ e));
+    used = λ k e. absurd (never_pinned (length f.pins) k (ap (λ ps. get_or ps k false) (sym blank) ∙ e));
     each = rw length-map kept.ordered.each;
   };
-  unmarked = kept.unmarked;
   sought = record {
     within = omega arith;
-    taken = none_taken (cleared_of user f.owners.items) f.order.items end (omega arith);
+    taken = none_taken (cleared_of user f.owners.items) f.order end (omega arith);
     before = λ k d lt. absurd (omega (arith, lt));
   };
 }
@@ -104,7 +103,7 @@ pub sound-first : (frames slots : List (List ℕ)) (owners slot_owners : List (O
     → lookup ≡ replicate (1024 * length sizes) 1 → slot_table ≡ replicate (1024 * length sizes) 4294967295 →
     pins ≡ replicate n false → order ≡ reverse (range_with_len 0 n) → n ≤ 4096 → m ≤ 65536 → length sizes ≤ 64
     → All (λ pages. pages ≤ 1024) sizes
-    → IsSound frames slots owners slot_owners sizes tables lookup slot_table pins false order n 0
+    → IsSound frames slots owners slot_owners sizes tables lookup slot_table pins order n 0
 sound-first frames slots owners slot_owners sizes tables lookup slot_table pins order n m room slot_room e f long halves
     l g h i few many users small =
     let both : length (frames ++ slots) ≡ n + m = omega (arith, length-append frames slots) in
@@ -122,7 +121,6 @@ sound-first frames slots owners slot_owners sizes tables lookup slot_table pins 
         used = λ k e. absurd (never_pinned n k e);
         each = rw length-replicate (IsPermutation-reverse (range_with_len 0 n));
       };
-      unmarked = λ _. ap (λ (k : ℕ). replicate k false) (sym (length-replicate n false));
       sought = record {
         within = long_order n;
         taken = none_taken (replicate n None) (reverse (range_with_len 0 n)) n (order_long n);

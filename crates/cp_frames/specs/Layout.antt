@@ -1,6 +1,6 @@
 -- What frames, and the pages that are in them, mean: the storage of each user.
 use Rattle.std.specs.Prelude.{◌≡◌, ℕ, ◌+◌, ◌-◌, ◌*◌, ◌/◌, ◌%◌, ◌<◌, ◌≤◌, Bool, true, false, nat_lt}
-use Rattle.std.specs.Prelude.{◌&&◌, ◌==◌, if◌then◌else◌, List, [], ◌++◌, map, length, replicate}
+use Rattle.std.specs.Prelude.{◌&&◌, ◌==◌, if◌then◌else◌, List, [], ◌++◌, map, length}
 use Rattle.std.specs.Prelude.{slice_index, slice_index_or, Option, Some, None, is_some, IsSome}
 use Rattle.std.specs.Prelude.{slice_set, All, take, drop}
 use Rattle.std.specs.List.{position_from, range_with_len}
@@ -159,11 +159,11 @@ pub record IsSought (owners slot_owners : List (Option UserPage)) (order : List 
   pub before : All IsSome (take low slot_owners)
 
 -- what is always so of frames with their pages, slots with theirs, the users' sizes, the tables of
--- frames, the list next to them in which a page is looked up, the table of slots, the pins, whether
--- any may be set, the order, and where searches end and begin: frames and slots together are
--- places, and each page is in one place at most
+-- frames, the list next to them in which a page is looked up, the table of slots, the pins, the
+-- order, and where searches end and begin: frames and slots together are places, and each page is
+-- in one place at most
 pub record IsSound (frames slots : List (List ℕ)) (owners slot_owners : List (Option UserPage))
-    (sizes tables lookup slot_table : List ℕ) (pins : List Bool) (marked : Bool) (order : List ℕ)
+    (sizes tables lookup slot_table : List ℕ) (pins : List Bool) (order : List ℕ)
     (end low : ℕ) : Type 0 where
   pub frame_room : length frames ≡ length owners
   pub slot_room : length slots ≡ length slot_owners
@@ -172,7 +172,6 @@ pub record IsSound (frames slots : List (List ℕ)) (owners slot_owners : List (
   pub looked : IsTabled frame_entry owners sizes lookup
   pub slots_tabled : IsTabled slot_entry slot_owners sizes slot_table
   pub ordered : IsOrdered owners pins order
-  pub unmarked : marked ≡ false → pins ≡ replicate (length pins) false
   pub sought : IsSought owners slot_owners order end low
 
 -- what is in a frame when a user's pages have left

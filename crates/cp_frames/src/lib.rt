@@ -33,6 +33,7 @@ mod numbers;
 mod order;
 mod owners;
 mod paging;
+mod pins;
 mod pool;
 mod saved;
 mod table;

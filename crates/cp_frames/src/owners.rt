@@ -1,5 +1,5 @@
 //! Which page is in each frame, or in each slot.
-ghost use Rattle.std.specs.Prelude.{◌≡◌, ◌<◌, ℕ, List, Option, Some, None, false, length};
+ghost use Rattle.std.specs.Prelude.{◌≡◌, ◌<◌, ℕ, List, Option, Some, None, length};
 ghost use Rattle.std.specs.Prelude.{slice_index, slice_index_or, slice_set, take, IsSome, IfOk};
 ghost use Rattle.std.specs.Prelude.{IfSome, IfNone, All, replicate};
 ghost use Rattle.cp_frames.specs.declared.numbers.UserPage.{UserPage};
@@ -21,24 +21,6 @@ pub fn no_owners(alloc: Global, count: usize) -> Result<Vec<Option<UserPage>>, A
     ensures { IfOk result (λ owners. owners.items ≡ replicate count None) }
 {
     Ok(vec![in alloc; None; count]?)
-}
-
-/// Returns a new list of pins for this many frames, none of which is pinned.
-///
-/// # Errors
-///
-/// `AllocError` if memory is refused.
-pub fn no_pins(alloc: Global, count: usize) -> Result<Vec<bool>, AllocError>
-    ensures { IfOk result (λ pins. pins.items ≡ replicate count false) }
-{
-    Ok(vec![in alloc; false; count]?)
-}
-
-/// Unpins all frames of this list.
-pub fn clear_pins(pins: &mut Vec<bool>)
-    ensures { pins.new.items ≡ replicate (length pins.old.items) false }
-{
-    pins.fill(false);
 }
 
 /// Returns the first slot from `low` on with no page in it, if there is one.

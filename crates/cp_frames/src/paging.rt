@@ -7,7 +7,7 @@ ghost use Rattle.cp_frames.specs.Paging.{IsChosen, IsBrought, IsOpen, IsRefused,
 ghost use Rattle.cp_frames.specs.Paging.{filled, paged_in};
 
 use crate::frame::clear;
-use crate::order::{free_turn, move_to_end, one_more, open_turn};
+use crate::order::{free_turn, one_more, open_turn};
 use crate::owners::{first_free, low_after};
 use crate::table::{clear_slot, map_page, set_slot, unmap_page};
 use crate::{FrameNo, Frames, UserPage};
@@ -58,23 +58,25 @@ impl Frames {
         Ok(FrameNo(frame as u16))
     }
 
-    /// Returns the index in the order of the frame for the next page; None if no frame is free and
-    /// all are pinned.
-    fn next_turn(&self) -> Option<usize>
-        ensures within { IfSome result (λ turn. turn < length self.now.supply.order) }
-        ensures chosen { IfSome result (λ turn. IsChosen self.now.supply turn) }
+    /// Returns the index in the order of the frame for the next page, if a frame is free or not
+    /// pinned. If none is free, the next search for a free frame begins nowhere.
+    fn next_turn(&mut self) -> Option<usize>
+        ensures unchanged { self.new ≡ self.old }
+        ensures within { IfSome result (λ turn. turn < length self.old.supply.order) }
+        ensures chosen { IfSome result (λ turn. IsChosen self.old.supply turn) }
         ensures later { IfSome result
-            (λ turn. AreTaken self.now.supply.owners (drop (turn + 1) self.now.supply.order)) }
+            (λ turn. AreTaken self.old.supply.owners (drop (turn + 1) self.old.supply.order)) }
         ensures unpinned { IfSome result
-            (λ turn. slice_index_or self.now.supply.pins (slice_index self.now.supply.order turn)
+            (λ turn. slice_index_or self.old.supply.pins (slice_index self.old.supply.order turn)
             false ≡ false) }
-        ensures full { IfNone result (All IsSome self.now.supply.owners) }
-        ensures pinned { IfNone result (All (λ pinned. pinned ≡ true) self.now.supply.pins) }
+        ensures full { IfNone result (All IsSome self.old.supply.owners) }
+        ensures pinned { IfNone result (All (λ pinned. pinned ≡ true) self.old.supply.pins) }
     {
         match free_turn(&self.order, &self.owners, self.end) {
             Some(turn) => return Some(turn),
             None => {}
         }
+        self.end = 0;
         open_turn(&self.order, &self.pins)
     }
 
@@ -86,7 +88,7 @@ impl Frames {
         ensures marked { result < length self.now.supply.pins }
         ensures few { length self.now.supply.owners ≤ 4096 }
     {
-        self.order[turn] as usize
+        self.order.frame_at(turn) as usize
     }
 
     /// Returns `turn` if the frame at that index of the order is free, else 0: from there on all
@@ -101,7 +103,7 @@ impl Frames {
             (Some page))
             (drop result self.now.supply.order) }
     {
-        if self.owners[self.order[turn] as usize].is_none() {
+        if self.owners[self.order.frame_at(turn) as usize].is_none() {
             turn
         } else {
             0
@@ -213,7 +215,7 @@ impl Frames {
         ensures storages { self.new.storages ≡ self.old.storages }
         ensures supply { self.new.supply ≡ paged_in self.old.supply turn }
     {
-        move_to_end(&mut self.order, turn);
+        self.order.move_to_end(turn);
         self.end = end;
         self.page_ins = one_more(self.page_ins);
     }

@@ -10,8 +10,9 @@ ghost use Rattle.cp_frames.specs.Layout.{written_frame};
 ghost use Rattle.cp_frames.specs.Tables.{segment_entry, page_entry, walk};
 
 use crate::frame::{blank_frames, copy_in, copy_out_at, copy_over};
-use crate::order::all_frames;
-use crate::owners::{clear_pins, free_user_frames, free_user_slots, no_owners, no_pins};
+use crate::order::FrameOrder;
+use crate::owners::{free_user_frames, free_user_slots, no_owners};
+use crate::pins::FramePins;
 use crate::table::{
     ABSENT, INVALID, NO_SEGMENT, NO_SLOT, PAGES, empty_lookup, empty_slot_table, entry_of,
     frame_in, half_at, new_tables, page_place, place_in, segment_place, word_at,
@@ -38,9 +39,8 @@ pub struct Frames {
     pub(crate) slots: Vec<[u8; FRAME_SIZE]>,
     pub(crate) owners: Vec<Option<UserPage>>,
     pub(crate) slot_owners: Vec<Option<UserPage>>,
-    pub(crate) pins: Vec<bool>,
-    pub(crate) is_marked: bool,
-    pub(crate) order: Vec<u16>,
+    pub(crate) pins: FramePins,
+    pub(crate) order: FrameOrder,
     pub(crate) end: usize,
     pub(crate) low: usize,
     pub(crate) page_ins: u64,
@@ -62,16 +62,15 @@ impl Model for Frames {
       supply = record {
         owners = f.owners.items;
         slots = f.slot_owners.items;
-        pins = f.pins.items;
-        order = f.order.items;
+        pins = f.pins;
+        order = f.order;
         page_ins = f.page_ins;
       };
     } };
 
     ghost invariant = { λ f.
         IsSound f.frames.items f.slots.items f.owners.items f.slot_owners.items f.sizes.items
-        f.tables.items f.lookup.items f.slot_table.items f.pins.items f.is_marked f.order.items
-        f.end f.low };
+        f.tables.items f.lookup.items f.slot_table.items f.pins f.order f.end f.low };
 }
 
 impl Frames {
@@ -108,8 +107,8 @@ impl Frames {
         let slot_count = slots as usize;
         let owners = no_owners(alloc, frame_count)?;
         let slot_owners = no_owners(alloc, slot_count)?;
-        let pins = no_pins(alloc, frame_count)?;
-        let order = all_frames(alloc, frames)?;
+        let pins = FramePins::new(alloc, frame_count)?;
+        let order = FrameOrder::new(alloc, frames)?;
         let frames = blank_frames(alloc, frame_count)?;
         let slots = blank_frames(alloc, slot_count)?;
         let tables = new_tables(alloc, &sizes)?;
@@ -122,7 +121,6 @@ impl Frames {
             owners,
             slot_owners,
             pins,
-            is_marked: false,
             order,
             end: frame_count,
             low: 0,
@@ -166,7 +164,6 @@ impl Frames {
             owners: _,
             slot_owners: _,
             pins: _,
-            is_marked: _,
             order: _,
             end: _,
             low: _,
@@ -328,8 +325,7 @@ impl Frames {
     {
         let frame = frame.0 as usize;
         if frame < self.pins.len() {
-            self.pins[frame] = self.owners[frame].is_some();
-            self.is_marked = true;
+            self.pins.set(frame, self.owners[frame].is_some());
         }
     }
 
@@ -341,8 +337,7 @@ impl Frames {
     {
         let frame = frame.0 as usize;
         if frame < self.pins.len() {
-            self.pins[frame] = false;
-            self.is_marked = true;
+            self.pins.set(frame, false);
         }
     }
 
@@ -352,10 +347,7 @@ impl Frames {
             ≡ record self.old.supply { pins = replicate (length self.old.supply.pins) false } }
         ensures storages { self.new.storages ≡ self.old.storages }
     {
-        if self.is_marked {
-            clear_pins(&mut self.pins);
-            self.is_marked = false;
-        }
+        self.pins.clear();
     }
 
     /// Returns whether a frame is pinned; false if there is no such frame.
@@ -364,7 +356,7 @@ impl Frames {
     {
         let frame = frame.0 as usize;
         if frame < self.pins.len() {
-            self.pins[frame]
+            self.pins.is_pinned(frame)
         } else {
             false
         }

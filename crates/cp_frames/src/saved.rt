@@ -11,7 +11,8 @@ ghost use Rattle.cp_frames.specs.Saved.{IsOneBySaved, is_zero, packed, page_byte
 ghost use Rattle.cp_frames.specs.Saved.{pool_bytes, storage_bytes, supply_bytes};
 
 use crate::frame::whole;
-use crate::order::move_to_end;
+use crate::order::FrameOrder;
+use crate::pins::FramePins;
 use crate::table::PAGES;
 use crate::{FRAME_SIZE, FrameNo, Frames, UserPage};
 use s370_store::{PAGE_SIZE, Page};
@@ -56,12 +57,12 @@ fn put_places(out: &mut Vec<u8>, owners: &[Option<UserPage>]) -> Result<(), Allo
 /// Appends for each frame a byte of 1 and a flag, whether it is pinned, and after all of them a
 /// byte of 0.
 #[tactic(auto, using(saved_bytes::proofs::Codes::each_on))]
-fn put_pins(out: &mut Vec<u8>, pins: &[bool]) -> Result<(), AllocError>
+fn put_pins(out: &mut Vec<u8>, pins: &FramePins) -> Result<(), AllocError>
     ensures { OnOk result (out.new.items ≡ out.old.items ++ each flag pins.now) }
 {
-    for pin in pins {
+    for frame in 0..pins.len() {
         put_one(out)?;
-        put_flag(out, *pin)?;
+        put_flag(out, pins.is_pinned(frame))?;
     }
     put_zero(out)
 }
@@ -69,12 +70,12 @@ fn put_pins(out: &mut Vec<u8>, pins: &[bool]) -> Result<(), AllocError>
 /// Appends the numbers of these frames, in their order, each after a byte of 1, and then a byte of
 /// 0.
 #[tactic(auto, using(saved_bytes::proofs::Codes::each_on))]
-fn put_order(out: &mut Vec<u8>, order: &[u16]) -> Result<(), AllocError>
+fn put_order(out: &mut Vec<u8>, order: &FrameOrder) -> Result<(), AllocError>
     ensures { OnOk result (out.new.items ≡ out.old.items ++ each number order.now) }
 {
-    for frame in order {
+    for turn in 0..order.len() {
         put_one(out)?;
-        put_number(out, u64::from(*frame))?;
+        put_number(out, u64::from(order.frame_at(turn)))?;
     }
     put_zero(out)
 }
@@ -157,7 +158,6 @@ impl Frames {
             owners,
             slot_owners,
             pins,
-            is_marked: _,
             order,
             end: _,
             low: _,
@@ -308,18 +308,6 @@ impl Frames {
         Ok(())
     }
 
-    /// Returns the index of a frame in the order, if it is there.
-    fn turn_of(&self, frame: u16) -> Option<usize>
-        ensures { IfSome result (λ turn. turn < length self.now.supply.order) }
-    {
-        let turn = self.order.iter().position(|other| *other == frame)?;
-        if turn < self.order.len() {
-            Some(turn)
-        } else {
-            None
-        }
-    }
-
     /// Moves the frame at the index `turn` of the order to its end, from which the next search for
     /// a free frame goes backwards.
     fn put_last(&mut self, turn: usize)
@@ -329,7 +317,7 @@ impl Frames {
         ensures owners { self.new.supply.owners ≡ self.old.supply.owners }
     {
         self.end = self.order.len();
-        move_to_end(&mut self.order, turn);
+        self.order.move_to_end(turn);
     }
 
     /// Reads frame numbers from the input, and moves each frame to the end of the order.
@@ -346,7 +334,7 @@ impl Frames {
             if !input.flag()? {
                 return Ok(());
             }
-            match self.turn_of(input.next_u16()?) {
+            match self.order.turn_of(input.next_u16()?) {
                 Some(turn) => self.put_last(turn),
                 None => return Err(RestoreError::Malformed),
             }

@@ -1,10 +1,11 @@
 //! A program that is looked at on a copy of its user's bytes.
-ghost use Rattle.std.specs.Prelude.{◌≡◌, ℕ, ◌%◌, ◌*◌, ◌<◌, IfNone, IfOk, IfSome, length, false};
-ghost use Rattle.std.specs.Prelude.{true};
+ghost use Rattle.std.specs.Prelude.{◌≡◌, ℕ, ◌%◌, ◌*◌, ◌<◌, ◌≤◌, IfNone, IfOk, IfSome, length};
 ghost use Rattle.cp_dat.specs.Copies.{is_wanted};
 ghost use Rattle.cp_dat.specs.Lent.{lent_bytes, lent_memory};
 ghost use Rattle.cp_needs.specs.Needs.{IsClash, IsFixed, IsProgramPage};
-ghost use Rattle.cp_trial.specs.Trial.{is_touched, trial_bytes, trial_memory};
+ghost use Rattle.cp_trial.specs.Trial.{is_touched, trial_bytes, trial_flags, trial_memory};
+ghost use Rattle.cp_trial.specs.Trial.{untouched_count};
+ghost use Rattle.s370_store.specs.Access.{IsAbsent};
 
 use crate::flags::flags_of;
 use crate::storage::TrialStorage;
@@ -13,22 +14,35 @@ use cp_needs::{Analysis, analyze};
 use s370_store::{FramesOut, PAGE_SIZE, Page, Storage, Supply};
 use std::alloc::{AllocError, Global};
 
+/// How many pages are copied one by one, as the analysis of a program comes to them.
+///
+/// If it comes to more, all are copied, so that it is not begun again for each.
+const FEW_PAGES: u32 = 16;
+
+/// Makes a page of a copy present that is not.
+fn touch(copy: &mut TrialStorage<'_>, page: Page)
+    requires { IsAbsent (length (trial_bytes copy.old)) (is_touched copy.old) page.0 }
+    ensures memory { trial_memory copy.new ≡ trial_memory copy.old }
+    ensures fewer { untouched_count (trial_flags copy.new)
+        < untouched_count (trial_flags copy.old) }
+{
+    match Supply::bring(copy, page) {
+        Ok(()) => {}
+        // There is always room.
+        Err(FramesOut) => unreachable!(),
+    }
+}
+
 /// Makes each page of a copy present.
 fn touch_all_pages(copy: &mut TrialStorage<'_>)
-    requires { (page : ℕ) → is_touched copy.old page ≡ false }
     ensures memory { trial_memory copy.new ≡ trial_memory copy.old }
-    ensures there { (page : ℕ) → page * 4096 < length (trial_bytes copy.old)
-        → is_touched copy.new page ≡ true }
+    ensures no_more { untouched_count (trial_flags copy.new)
+        ≤ untouched_count (trial_flags copy.old) }
 {
-    let pages = copy.size() / PAGE_SIZE;
-    let mut page = 0u32;
-    while page < pages {
-        match Supply::bring(copy, Page(page)) {
-            Ok(()) => {}
-            // There is always room.
-            Err(FramesOut) => unreachable!(),
+    for page in 0..copy.size() / PAGE_SIZE {
+        if !copy.is_touched(Page(page)) {
+            touch(copy, Page(page));
         }
-        page += 1;
     }
 }
 
@@ -54,14 +68,20 @@ pub(crate) fn pages_on_copy(
         → IsProgramPage (lent_memory storage.now) address page)) }
 {
     let mut copy = TrialStorage::new(alloc, storage)?;
-    touch_all_pages(&mut copy);
-    match analyze(alloc, &copy, address)? {
-        Analysis::Fixed(text, pages) => {
-            let flags = flags_of(alloc, copy.size() / PAGE_SIZE, &text, &pages)?;
-            Ok(Some(flags))
+    let mut few = FEW_PAGES;
+    loop {
+        match analyze(alloc, &copy, address)? {
+            Analysis::Fixed(text, pages) => {
+                let flags = flags_of(alloc, copy.size() / PAGE_SIZE, &text, &pages)?;
+                return Ok(Some(flags));
+            }
+            Analysis::SelfModifying => return Ok(None),
+            Analysis::Page(page) => touch(&mut copy, page),
         }
-        Analysis::SelfModifying => Ok(None),
-        // Each page is present.
-        Analysis::Page(_) => unreachable!(),
+        if few == 0 {
+            touch_all_pages(&mut copy);
+        } else {
+            few -= 1;
+        }
     }
 }

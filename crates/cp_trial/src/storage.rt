@@ -100,6 +100,14 @@ impl<'a> TrialStorage<'a> {
         TouchedPages { bytes, touched }
     }
 
+    /// Returns whether a page was touched.
+    pub(crate) fn is_touched(&self, page: Page) -> bool
+        requires { page.0 * 4096 < length (trial_bytes self.now) }
+        ensures { result ≡ is_touched self.now page.0 }
+    {
+        flag_at(&self.touched, page.0)
+    }
+
     /// Overwrites bytes of touched pages from an address on; no test is made.
     fn put(&mut self, start: u32, from: &[u8])
         requires inside { start + length from.now ≤ length (trial_bytes self.old) }

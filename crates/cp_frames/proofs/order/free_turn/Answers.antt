@@ -21,9 +21,10 @@ loop-after-preserved c =
     let turn = end - 1 - after in
     let lt : turn < length order = omega (arith, c.loop-after-test.true, c.requires.end) in
     let within = c.requires.frames turn 0 lt in
-    let is : get_or owners (get_or order turn 0) None ≡ c.index-owners-order.result =
-    get_or_default owners (get_or order turn 0) None c.index-owners-order.result within ∙ sym
-    c.index-owners-order.is in
+    let found = c.index-owners-frame_at.result in
+    let is : get_or owners (get_or order turn 0) None ≡ found =
+    get_or_default owners (get_or order turn 0) None found within
+    ∙ ap (λ frame. get_or owners frame found) (sym c.frame_at.ensures) ∙ sym c.index-owners-frame_at.is in
     let here : P (get_or order turn 0) = ap is_some is ∙ c.if-is_none.ensures in
     let e : end - after ≡ turn + 1 = omega (arith, c.loop-after-test.true) in
     let f : turn ≡ end - (after + 1) = omega arith in

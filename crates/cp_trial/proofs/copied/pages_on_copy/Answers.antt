@@ -1,4 +1,4 @@
-use Rattle.std.proofs.Common.{◌≡◌, ◌∙◌, ◌*◌, ◌/◌, arith, length, subst, sym}
+use Rattle.std.proofs.Common.{◌≡◌, ◌*◌, ◌/◌, arith, length, subst, sym}
 use Rattle.s370_store.specs.Memory.{Memory}
 use Rattle.cp_trial.specs.Trial.{trial_memory}
 use Rattle.cp_dat.specs.Lent.{lent_memory}
@@ -9,10 +9,10 @@ use Rattle.cp_trial.proofs.copied.pages_on_copy.Goals as goal
 
 pub returns-in-Fixed-clause-all : goal.returns-in-Fixed-clause-all
 returns-in-Fixed-clause-all c = λ page it.
-    (let copy = c.touch_all_pages.new.copy in
+    (let copy = c.loop-copy.copy in
     let m = trial_memory copy in
     let start = c.args.address in
-    let same : m ≡ lent_memory c.args.storage.now = c.touch_all_pages.ensures.memory ∙ c.in_ok-copy.ensures.memory in
+    let same : m ≡ lent_memory c.args.storage.now = c.loop-copy.invariant in
     let size : length m.bytes ≡ c.size.result / 4096 * 4096 = omega (arith, copy.a_flag_a_page, c.size.ensures.bytes) in
     let texts = subst (λ (f : Analysis). IfText f (IsText m start)) c.in-Fixed.is c.in_ok-text.ensures.text in
     let paged = subst (λ (f : Analysis). IfPages f (IsPaged m start)) c.in-Fixed.is c.in_ok-text.ensures.pages in
@@ -21,10 +21,10 @@ returns-in-Fixed-clause-all c = λ page it.
 
 pub returns-in-Fixed-clause-only : goal.returns-in-Fixed-clause-only
 returns-in-Fixed-clause-only c = λ page it.
-    (let copy = c.touch_all_pages.new.copy in
+    (let copy = c.loop-copy.copy in
     let m = trial_memory copy in
     let start = c.args.address in
-    let same : m ≡ lent_memory c.args.storage.now = c.touch_all_pages.ensures.memory ∙ c.in_ok-copy.ensures.memory in
+    let same : m ≡ lent_memory c.args.storage.now = c.loop-copy.invariant in
     let size : length m.bytes ≡ c.size.result / 4096 * 4096 = omega (arith, copy.a_flag_a_page, c.size.ensures.bytes) in
     let texts = subst (λ (f : Analysis). IfText f (IsTextOnly m start)) c.in-Fixed.is c.in_ok-text.ensures.only in
     let paged = subst (λ (f : Analysis). IfPages f (IsPagedOnly m start)) c.in-Fixed.is c.in_ok-text.ensures.pages_only

@@ -1,13 +1,10 @@
-use Rattle.std.proofs.Common.{◌≡◌, ◌<◌, ◌≤◌, ◌-◌, ℕ, true, false}
-use Rattle.cp_trial.specs.Trial.{is_touched, trial_memory}
+use Rattle.std.proofs.Common.{◌≡◌, ◌≤◌, ◌*◌, length}
+use Rattle.cp_trial.specs.Trial.{trial_bytes, trial_flags, trial_memory, untouched_count}
 use Rattle.cp_trial.proofs.copied.touch_all_pages.Given as goal
 
 abbrev pub invariant-loop-page : goal.invariant-loop-page
 invariant-loop-page l = record {
   memory : trial_memory l.copy ≡ trial_memory l.fn.copy;
-  there : (page : ℕ) → page < l.page → is_touched l.copy page ≡ true;
-  away : (page : ℕ) → l.page ≤ page → is_touched l.copy page ≡ false;
+  no_more : untouched_count (trial_flags l.copy) ≤ untouched_count (trial_flags l.fn.copy);
+  size : l.page-end * 4096 ≤ length (trial_bytes l.copy);
 }
-
-abbrev pub decreases-loop-page : goal.decreases-loop-page
-decreases-loop-page l = l.pages - l.page

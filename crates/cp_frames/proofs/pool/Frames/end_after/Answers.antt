@@ -8,47 +8,47 @@ use Rattle.cp_frames.proofs.Orders.{order_within}
 use Rattle.cp_frames.proofs.Sought.{taken_from, taken_all, not_some}
 use Rattle.cp_frames.proofs.pool.Frames.end_after.Goals as goal
 
-pub index-requires-2 : goal.index-requires-2
-index-requires-2 c =
+pub index-requires : goal.index-requires
+index-requires c =
     let f = c.self.inside in
-    let turn_in : c.args.turn < length f.order.items = rw (← c.self.view_is) at c.requires.turn in
-    let read = get_or_read f.order.items _ _ turn_in c.index.ensures 0 in
-    let within = order_within f.owners.items f.pins.items f.order.items c.self.invariant.ordered c.args.turn 0 turn_in
+    let turn_in : c.args.turn < length f.order = rw (← c.self.view_is) at c.requires.turn in
+    let read = c.frame_at.ensures in
+    let within = order_within f.owners.items f.pins f.order c.self.invariant.ordered c.args.turn 0 turn_in
     in
     omega (arith, within, read, f.owners.ok.0)
 
 pub returns-then-is_none-clause-taken : goal.returns-then-is_none-clause-taken
 returns-then-is_none-clause-taken c =
     let f = c.self.inside in
-    let turn_in : c.args.turn < length f.order.items = rw (← c.self.view_is) at c.requires.turn in
-    let within = order_within f.owners.items f.pins.items f.order.items c.self.invariant.ordered c.args.turn 0 turn_in
+    let turn_in : c.args.turn < length f.order = rw (← c.self.view_is) at c.requires.turn in
+    let within = order_within f.owners.items f.pins f.order c.self.invariant.ordered c.args.turn 0 turn_in
     in
-    let later : AreTaken f.owners.items (drop (c.args.turn + 1) f.order.items) =
+    let later : AreTaken f.owners.items (drop (c.args.turn + 1) f.order) =
     rw (← c.self.view_is) at c.requires.later in
-    rw (← c.self.view_is) (λ page. taken_from f.owners.items f.order.items c.args.turn page turn_in within later)
+    rw (← c.self.view_is) (λ page. taken_from f.owners.items f.order c.args.turn page turn_in within later)
 
 pub returns-else-is_none-clause-taken : goal.returns-else-is_none-clause-taken
 returns-else-is_none-clause-taken c =
     let f = c.self.inside in
-    let turn_in : c.args.turn < length f.order.items = rw (← c.self.view_is) at c.requires.turn in
-    let read = get_or_read f.order.items _ _ turn_in c.index.ensures 0 in
-    let frames = order_within f.owners.items f.pins.items f.order.items c.self.invariant.ordered in
-    let within : get_or f.order.items c.args.turn 0 < length f.owners.items = frames c.args.turn 0 turn_in in
-    let here : c.index-2.result.now ≡ get_or f.owners.items (get_or f.order.items c.args.turn 0) None =
-    get_or_read f.owners.items _ _ (omega (arith, within, read)) c.index-2.ensures None ∙ ap
+    let turn_in : c.args.turn < length f.order = rw (← c.self.view_is) at c.requires.turn in
+    let read = c.frame_at.ensures in
+    let frames = order_within f.owners.items f.pins f.order c.self.invariant.ordered in
+    let within : get_or f.order c.args.turn 0 < length f.owners.items = frames c.args.turn 0 turn_in in
+    let here : c.index.result.now ≡ get_or f.owners.items (get_or f.order c.args.turn 0) None =
+    get_or_read f.owners.items _ _ (omega (arith, within, read)) c.index.ensures None ∙ ap
     (λ k. get_or f.owners.items k None) read in
-    let some : IsSome (get_or f.owners.items (get_or f.order.items c.args.turn 0) None) =
+    let some : IsSome (get_or f.owners.items (get_or f.order c.args.turn 0) None) =
     ap (λ (o : Option UserPage). is_some o) (sym here) ∙ c.if-is_none.ensures in
     let chosen : IsChosen (record {
       owners = f.owners.items;
       slots = f.slot_owners.items;
-      pins = f.pins.items;
-      order = f.order.items;
+      pins = f.pins;
+      order = f.order;
       page_ins = f.page_ins;
     }) c.args.turn = rw (← c.self.view_is) at c.requires.chosen in
     let full : All IsSome f.owners.items = elim chosen [
-      | inl free ↦ absurd (not_some (get_or f.owners.items (get_or f.order.items c.args.turn 0) None) free some)
+      | inl free ↦ absurd (not_some (get_or f.owners.items (get_or f.order c.args.turn 0) None) free some)
       | inr held ↦ held.0
     ] in
     rw (← c.self.view_is) (λ page.
-    taken_all f.owners.items f.order.items (get_or f.order.items c.args.turn 0) page within frames full)
+    taken_all f.owners.items f.order (get_or f.order c.args.turn 0) page within frames full)

@@ -112,7 +112,7 @@ invariant_of-self c =
     let p = c.swap.ensures.y_after ∙ get_or_read f.owners.items _ _ within c.index_mut.ensures.value None in
     let x = c.swap-2.ensures.x_after ∙ get_or_read f.slots.items _ _ bytes_in c.index_mut-4.ensures.value [] in
     let y = c.swap-2.ensures.y_after ∙ get_or_read f.frames.items _ _ frame_in c.index_mut-3.ensures.value [] in
-    let unpinned : get_or f.pins.items frame false ≡ false = rw (← c.self.view_is) at c.requires.unpinned in
+    let unpinned : get_or f.pins frame false ≡ false = rw (← c.self.view_is) at c.requires.unpinned in
     let tables : c.map_page.new.tables.items
     ≡ noted (get_or f.slot_owners.items slot None) (frame * 16)
     (noted (get_or f.owners.items frame None) 8 f.tables.items) =
@@ -140,7 +140,7 @@ invariant_of-self c =
     (reported slot_entry (get_or f.slot_owners.items slot None) None f.slot_table.items)) given_2 in
     rw (o, p, x, y, tables, lookup, slot_table)
     (exchange-kept f frame slot c.len-self-inside.result c.low_after-self-inside.result kept within slot_in unpinned
-    (omega (arith, c.len-self-inside.ensures, f.order.ok.0)) low)
+    c.len-self-inside.ensures low)
 
 pub returns-clause-storages : goal.returns-clause-storages
 returns-clause-storages c =

@@ -54,12 +54,11 @@ invariant_of-self c =
       mapped = rw c.map_page.ensures.tables (tables_filled f user page frame kept at.of_page absent within free);
       looked = rw c.map_page.ensures.lookup (looks_filled f user page frame kept at.of_page absent within free);
       slots_tabled = kept.slots_tabled;
-      ordered = ordered-set f.owners.items f.pins.items f.order.items frame (Some (owned user page)) kept.ordered
-          (free_unpinned f.owners.items f.pins.items f.order.items frame kept.ordered free);
-      unmarked = kept.unmarked;
+      ordered = ordered-set f.owners.items f.pins f.order frame (Some (owned user page)) kept.ordered
+          (free_unpinned f.owners.items f.pins f.order frame kept.ordered free);
       sought = record {
         within = kept.sought.within;
-        taken = taken-set f.owners.items (drop f.end f.order.items) frame (owned user page) within kept.sought.taken;
+        taken = taken-set f.owners.items (drop f.end f.order) frame (owned user page) within kept.sought.taken;
         before = kept.sought.before;
       };
     }

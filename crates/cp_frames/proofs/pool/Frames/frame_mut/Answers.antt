@@ -17,8 +17,8 @@ returns c =
     record {
       owners = f.owners.items;
       slots = f.slot_owners.items;
-      pins = f.pins.items;
-      order = f.order.items;
+      pins = f.pins;
+      order = f.order;
       page_ins = f.page_ins;
     } in
     let over : List (List ℕ)

@@ -12,7 +12,7 @@ invariant_of-result c =
     rw c.from-frame_count.ensures
     (sound-first c.in_ok-frames.frames.items c.in_ok-slots.slots.items c.in_ok-owners.owners.items
     c.in_ok-slot_owners.slot_owners.items c.args.sizes.items c.in_ok-tables.tables.items c.in_ok-lookup.lookup.items
-    c.in_ok-slot_table.slot_table.items c.in_ok-pins.pins.items c.in_ok-order.order.items c.args.frames c.args.slots
+    c.in_ok-slot_table.slot_table.items c.in_ok-pins.pins c.in_ok-order.order c.args.frames c.args.slots
     frames slots (c.in_ok-owners.ensures ∙ ap (λ n. replicate n None) c.from-frame_count.ensures)
     c.in_ok-slot_owners.ensures (rw c.deref.ensures.value at c.in_ok-tables.ensures.size)
     (rw c.deref.ensures.value at c.in_ok-tables.ensures.halves)

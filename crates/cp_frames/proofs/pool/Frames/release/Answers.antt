@@ -1,4 +1,4 @@
-use Rattle.std.proofs.Common.{arith, ◌∙◌, ◌≡◌, ap, sym, length, replicate, false, Bool, List}
+use Rattle.std.proofs.Common.{◌∙◌, ◌≡◌, ap, sym, length, replicate, false, Bool, List}
 use Rattle.std.proofs.lemmas.List.{length-replicate}
 use Rattle.cp_frames.specs.Layout.{Pool, FrameSupply, IsMapped, IsTabled, cleared_of, frame_entry, slot_entry}
 use Rattle.cp_frames.proofs.Layouts.{frame_of-cleared, storages-cleared, length-bytes_of}
@@ -14,7 +14,7 @@ invariant_of-self c =
     let f = c.self.inside in
     let pins = ap (λ (p : Pool). p.supply.pins) c.self.view_is ∙ ap (λ (s : FrameSupply). s.pins)
     c.unpin_all.ensures.supply in
-    let blank : f.pins.items ≡ replicate (length f.pins.items) false =
+    let blank : f.pins ≡ replicate (length f.pins) false =
     pins ∙ ap (λ n. replicate n false)
     (sym (ap (λ (ps : List Bool). length ps) pins ∙ length-replicate (length c.args.self.now.supply.pins) false)) in
     let mapped : IsMapped (cleared_of c.args.user f.owners.items) f.sizes.items c.free_user_frames.new.tables.items =
@@ -30,7 +30,7 @@ invariant_of-self c =
     (released-kept f c.args.user c.free_user_frames.new.tables.items c.free_user_frames.new.lookup.items
     c.free_user_slots.new.table.items
     c.len-self-inside.result c.self.invariant blank mapped looked slots_tabled
-    (omega (arith, c.len-self-inside.ensures, f.order.ok.0)))
+    c.len-self-inside.ensures)
 
 pub returns-clause-storages : goal.returns-clause-storages
 returns-clause-storages c =
