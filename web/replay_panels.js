@@ -86,14 +86,14 @@ export class Panels {
       value.append(marked(element("span", "", text), isNew, "changed"));
       fields.append(element("dt", "", name), value);
     };
-    const channels = [0, 1, 2, 3, 4, 5].filter((place) => psw["system mask"] & (0x80 >> place));
-    const enabled = [channels.length ? `channels ${channels.join(" ")}` : "", psw["system mask"] & 1 ? "external" : "", psw["machine check"] ? "machine check" : ""];
+    const channels = [0, 1, 2, 3, 4, 5].filter((place) => psw.system_mask & (0x80 >> place));
+    const enabled = [channels.length ? `channels ${channels.join(" ")}` : "", psw.system_mask & 1 ? "external" : "", psw.machine_check ? "machine check" : ""];
     add("address", hex(psw.address), differs("address"));
-    add("state", `${psw.problem ? "problem" : "supervisor"}${psw.wait ? ", wait" : ""}${psw.ec ? ", EC" : ""}`, differs("problem", "wait"));
-    add("key, CC", `${hex(psw.key, 1)}, ${psw.cc}`, differs("key", "cc"));
-    add("enabled for", enabled.filter(Boolean).join(", ") || "nothing", differs("system mask", "machine check"));
-    const masks = MASKS.filter((_, place) => psw["program mask"] & (8 >> place));
-    if (masks.length) add("program mask", masks.join(", "), differs("program mask"));
+    add("state", `${psw.problem ? "problem" : "supervisor"}${psw.wait ? ", wait" : ""}${psw.extended ? ", EC" : ""}`, differs("problem", "wait"));
+    add("key, CC", `${hex(psw.key, 1)}, ${psw.condition}`, differs("key", "condition"));
+    add("enabled for", enabled.filter(Boolean).join(", ") || "nothing", differs("system_mask", "machine_check"));
+    const masks = MASKS.filter((_, place) => psw.program_mask & (8 >> place));
+    if (masks.length) add("program mask", masks.join(", "), differs("program_mask"));
     return fields;
   }
 

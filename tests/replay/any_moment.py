@@ -44,7 +44,7 @@ ALONE = ("console-lines", "timers", "auto-devices", "two-open-files")
 DISKS = ["MDISK 190 3330 0 3 WORK01 W", "MDISK 191 3330 0 3 V00000 W"]
 CUT = "cards-for-another"
 NAMES = ("two-tasks", "ipl-from-cards", "more-pages-than-frames", "frames-out", "two-users-chat")
-PARTS = "ready serves volumes users frames slots pins order page_ins tables".split()
+PARTS = ("lines", "volumes", "supply", "tables")
 # for so many seconds something is awaited
 PATIENCE = 120
 # a loop that adds the word at 204 to register 1, and stores the sum at 200
@@ -96,40 +96,36 @@ def view_from_beginning(
 def differing(one: StateView, other: StateView) -> list[str]:
     """The parts in which two states differ. Entries of a closed file may be in one of them only: the program drops them after the part
     that closes it, but not those which a reader has then."""
-    found = [
-        part for part in PARTS if part != "users" and getattr(one, part) != getattr(other, part)
-    ]
+    found = [part for part in PARTS if getattr(one, part) != getattr(other, part)]
     for name, user in one.users.items():
-        other_user = other.users[name]
-        found += [
-            f"{name} {key}"
-            for key in user
-            if (
-                not is_alike(user[key], other_user[key])
-                if key == "closed"
-                else user[key] != other_user[key]
-            )
-        ]
+        parts = zip(user._fields, user, other.users[name])
+        found += [f"{name} {field}" for field, part, same in parts if not is_alike(part, same)]
     return found
 
 
-def is_alike(one: list[list], other: list[list]) -> bool:
-    """Whether closed files are the same, those of which one has no entries too."""
-    return [len(files) for files in one] == [len(files) for files in other] and all(
-        file[0] == same[0] and (file[1] == same[1] or not file[1] or not same[1])
-        for files, others in zip(one, other)
-        for file, same in zip(files, others)
+def is_alike(one: Any, other: Any) -> bool:
+    """Whether a part of a user is the same, but for closed files of which one has no entries."""
+    if not hasattr(one, "punched"):
+        return one == other
+    rest = [files._replace(punched=[], printed=[]) for files in (one, other)]
+    return rest[0] == rest[1] and all(
+        len(files) == len(others) and all(map(is_alike_file, files, others))
+        for files, others in ((one.punched, other.punched), (one.printed, other.printed))
     )
+
+
+def is_alike_file(one: Any, other: Any) -> bool:
+    is_emptied = not one.entries or not other.entries
+    return one.target == other.target and (is_emptied or one.entries == other.entries)
 
 
 def bytes_of_closed(view: StateView) -> int:
     """How many bytes of a state are entries of closed files: each a flag, a number, a length and what it has."""
     return sum(
-        1 + 8 + 8 + len(data)
+        1 + 8 + 8 + len(entry.bytes)
         for user in view.users.values()
-        for files in user["closed"]
-        for _, entries in files
-        for _, data in entries
+        for file in (*user.files.punched, *user.files.printed)
+        for entry in file.entries
     )
 
 
@@ -196,8 +192,9 @@ def try_bare(check: Callable, program: str) -> None:
             machines, entries_of(list(events_of(b"LINE BARE LOGON\n"))), None, lambda share: None
         )
         moments = Moments(run)
-        disks = moments.moment(1, 0).view.users["BARE"]["minidisks"]
-        found = [(disk["address"], disk["count"], disk["writable"]) for disk in disks]
+        disks = moments.moment(1, 0).view.users["BARE"].minidisks
+        extents = [(disk.address, disk.minidisk.extent) for disk in disks]
+        found = [(address, extent.count, extent.writable) for address, extent in extents]
         check("its states have them", found == [(0x190, 3, True), (0x191, 3, True)], *found)
         moments.close()
         machines.close()
@@ -205,11 +202,11 @@ def try_bare(check: Callable, program: str) -> None:
 
 def displayed(program: StateProgram, view: StateView, user: str) -> list[str]:
     """What DISPLAY says otherwise than a state. Nothing is said of a page for which there is no frame."""
-    found = view.users[user]
+    cpu = view.users[user].machine.cpu
     words = [view.storage_of(user, 0x200 + 4 * word, 4).hex().upper() for word in range(4)]
-    wanted = {f"G{number}": f"{value:08X}" for number, value in enumerate(found["general"])}
-    wanted |= {"X0": f"{found['control'][0]:08X}", "200": " ".join(words)}
-    wanted["PSW"] = f"{found['psw']['address']:06X}"
+    wanted = {f"G{number}": f"{value:08X}" for number, value in enumerate(cpu.general)}
+    wanted |= {"X0": f"{cpu.control[0]:08X}", "200": " ".join(words)}
+    wanted["PSW"] = f"{cpu.psw.address:06X}"
     lines = [f"LINE {user} #CP DISPLAY {name}\n" for name in wanted]
     answers = program.do("".join(lines).encode()).events
     return [
@@ -223,8 +220,7 @@ def is_viewed(program: StateProgram, whole: StateView, user: str, run: Run) -> b
     """Whether what a program tells of one user is what its state has of him, of the frames and of his storage."""
     one = program.user_view(user, run.machines.users, run.pieces)
     is_same = one.users[user] == whole.users[user] and one.tables[user] == whole.tables[user]
-    parts = "frames slots pins order page_ins".split()
-    return is_same and all(getattr(one, part) == getattr(whole, part) for part in parts)
+    return is_same and one.supply == whole.supply
 
 
 def try_moment(check: Callable, name: str, moments: Moments, event: int, unit: int) -> None:
@@ -241,7 +237,7 @@ def try_moment(check: Callable, name: str, moments: Moments, event: int, unit: i
         others = [user for user in view.users if not is_viewed(program, other, user, moments.run)]
         check(f"{name}: VIEW has of each at {event}.{unit} what SAVE has", not others, *others)
         for user, state in view.users.items():
-            if state["mode"] != "off":
+            if state.machine.mode != "off":
                 wrong = displayed(program, view, user)
                 check(
                     f"{name}: DISPLAY says of {user} at {event}.{unit} what the state does",

@@ -11,71 +11,70 @@ from gathjumli.moment_storage import Storage, characters, line_text
 MOST_WORDS = 24
 # bytes of a channel program's data that are shown
 DATA_SHOWN = 24
-PLACES = ("console", "reader", "punch", "printer")
 MODELS = {"console": "3215", "reader": "3505", "punch": "3525", "printer": "1403", "disk": "3330"}
 assert set(MODELS) == set(UNITS.values())
 CSW, CAW = 0x40, 0x48
 
 
-def kinds_of(user: dict[str, Any]) -> dict[int, str]:
+def kinds_of(user: Any) -> dict[int, str]:
     """What is at each address of a user's."""
-    found = {place: kind for kind, place in zip(PLACES, user["places"]) if place is not None}
-    return found | {disk["address"]: "disk" for disk in user["minidisks"]}
+    found = {
+        place: kind for kind, place in user.devices.places._asdict().items() if place is not None
+    }
+    return found | {disk.address: "disk" for disk in user.minidisks}
 
 
-def devices_of(user: dict[str, Any], storage: Storage) -> list[dict[str, Any]]:
+def devices_of(user: Any, storage: Storage) -> list[dict[str, Any]]:
     kinds = kinds_of(user)
     return [
-        device_of(channel, kinds[channel["address"]], user, storage)
-        for channel in user["subchannels"]
-        if channel["address"] in kinds
+        device_of(channel, kinds[channel.address], user, storage)
+        for channel in user.machine.subchannels
+        if channel.address in kinds
     ]
 
 
-def device_of(
-    channel: dict[str, Any], kind: str, user: dict[str, Any], storage: Storage
-) -> dict[str, Any]:
-    address, word = channel["address"], channel["word"]
+def device_of(channel: Any, kind: str, user: Any, storage: Storage) -> dict[str, Any]:
+    address, word = channel.address, channel.state.word
     row = {"address": f"{address:03X}", "kind": kind, "model": MODELS[kind]}
-    row |= {"state": channel["state"], "attention": channel["attention"]}
-    if channel["state"] == "working":
+    row |= {"state": channel.state.kind, "attention": channel.attention}
+    if channel.state.kind == "working":
         row["word"] = f"CAW {word:08X}"
         row["program"] = program_of(word & 0xFFFFFF, storage, kind)
-    elif channel["state"] == "pending":
+    elif channel.state.kind == "pending":
         row["word"] = status_text(word.to_bytes(8, "big"))
     return row | {"more": more_of(kind, address, user)}
 
 
-def more_of(kind: str, address: int, user: dict[str, Any]) -> list[str]:
+def more_of(kind: str, address: int, user: Any) -> list[str]:
     """What there is to say of a device beside its state."""
     if kind == "console":
-        console = user["console"]
-        unfinished = line_text(console["unfinished"])
-        lines = [f"waits: {line_text(line)}" for line in console["waiting"]]
+        console = user.devices.console
+        unfinished = line_text(console.unfinished)
+        lines = [f"waits: {line_text(line)}" for line in console.waiting]
         return lines + ([f"unfinished: {unfinished}"] if unfinished else [])
     if kind == "reader":
-        return decks_of(user)
+        return decks_of(user.files)
     if kind in ("punch", "printer"):
-        count = len(user[kind]["entries"])
+        count = len(getattr(user.devices, kind).entries)
         return [f"{count} entries in the open file"] if count else []
-    disk = next(item for item in user["minidisks"] if item["address"] == address)
-    sense = "".join(f"{byte:02X}" for byte in disk["sense"])
-    only = "" if disk["writable"] else ", read only"
-    found = [f"arm at {disk['cylinder']}/{disk['head']}", f"{disk['count']} cylinders{only}"]
+    disk = next(item.minidisk for item in user.minidisks if item.address == address)
+    sense = "".join(f"{byte:02X}" for byte in disk.sense)
+    only = "" if disk.extent.writable else ", read only"
+    found = [f"arm at {disk.cylinder}/{disk.head}", f"{disk.extent.count} cylinders{only}"]
     return found + ([f"sense {sense}"] if sense != "0000" else [])
 
 
-def decks_of(user: dict[str, Any]) -> list[str]:
-    read = user["cards read"] or 0
+def decks_of(files: Any) -> list[str]:
+    read = files.place or 0
     found = []
-    for place, deck in enumerate(user["decks"]):
-        count = len(deck["cards"])
+    for place, deck in enumerate(files.decks):
+        count = len(deck.cards)
         left = count - (0 if place else read)
-        found.append(f"deck {deck['label']}: {left} of {count} cards left")
+        found.append(f"deck {deck.label}: {left} of {count} cards left")
     return found
 
 
-def channel_of(user: dict[str, Any], storage: Storage) -> dict[str, Any]:
+def channel_of(user: Any, storage: Storage) -> dict[str, Any]:
     """The channel program to which the channel address word points, and both words."""
     word = storage.at(CAW, 4)
     start = int.from_bytes(word[1:], "big")
@@ -86,16 +85,17 @@ def channel_of(user: dict[str, Any], storage: Storage) -> dict[str, Any]:
     }
 
 
-def device_of_caw(user: dict[str, Any], storage: Storage) -> str:
+def device_of_caw(user: Any, storage: Storage) -> str:
     """The kind of the device for which the address word is: that which the next instruction starts, or the one that works with it."""
     kinds = kinds_of(user)
-    code = storage.at(user["psw"]["address"], 4)
+    cpu = user.machine.cpu
+    code = storage.at(cpu.psw.address, 4)
     if code[:1] == b"\x9c" and len(code) == 4:
-        return kinds.get(place_of(code, user["general"]) & 0xFFFF, "")
+        return kinds.get(place_of(code, cpu.general) & 0xFFFF, "")
     word = int.from_bytes(storage.at(CAW, 4), "big")
-    for channel in user["subchannels"]:
-        if channel["state"] == "working" and channel["word"] == word:
-            return kinds.get(channel["address"], "")
+    for channel in user.machine.subchannels:
+        if channel.state == ("working", word):
+            return kinds.get(channel.address, "")
     return ""
 
 

@@ -72,8 +72,10 @@ class MomentPage:
         now, before = moment.view.users[user], (old or moment.view).users[user]
         found = {"event": moment.event, "unit": moment.unit, "since": ".".join(map(str, since))}
         found |= self.what_is_next(moment.event) | {"when": self.when(moment.event)}
-        found |= self.processor(now, before)
-        found |= self.instructions(now, before, storage, self.moments.is_unit(since, where, user))
+        found |= self.processor(now.machine, before.machine)
+        found |= self.instructions(
+            now.machine.cpu, before.machine.cpu, storage, self.moments.is_unit(since, where, user)
+        )
         found |= self.storage(
             storage, now, first_address(storage, now) if address is None else address
         )
@@ -106,28 +108,29 @@ class MomentPage:
         place = bisect_left(self.times, (line,))
         return self.times[min(place, len(self.times) - 1)][1] if self.times else ""
 
-    def processor(self, now: dict[str, Any], before: dict[str, Any]) -> dict[str, Any]:
+    def processor(self, now: Any, before: Any) -> dict[str, Any]:
+        cpu, old = now.cpu, before.cpu
         return {
-            "mode": now["mode"],
-            "psw": psw_of(now["psw"]),
-            "old psw": psw_of(before["psw"]),
-            "registers": numbers(now["general"], before["general"]),
-            "control": numbers(now["control"], before["control"]),
-            "pending": [kind for kind, is_set in now["pending"].items() if is_set],
+            "mode": now.mode,
+            "psw": psw_of(cpu.psw),
+            "old psw": psw_of(old.psw),
+            "registers": numbers(cpu.general, old.general),
+            "control": numbers(cpu.control, old.control),
+            "pending": [kind for kind, is_set in now.pending._asdict().items() if is_set],
         }
 
     # --- instructions ---
 
     def instructions(
-        self, now: dict[str, Any], before: dict[str, Any], storage: Storage, is_unit: bool
+        self, now: Any, before: Any, storage: Storage, is_unit: bool
     ) -> dict[str, Any]:
         """The next instructions, and what led here by one unit: an instruction, as it stood then, an interruption, or both."""
-        address = now["psw"]["address"]
+        address = now.psw.address
         then = Storage(storage.old, None, storage.user)
-        done = self.instruction(before["psw"]["address"], then) if is_unit else None
+        done = self.instruction(before.psw.address, then) if is_unit else None
         kind, text = interruption_of(now, before, storage, done) if is_unit else ("", "")
         return {
-            "code": self.following(address, now["general"], storage),
+            "code": self.following(address, now.general, storage),
             # these are taken before an instruction is done
             "done": None if kind in ("external", "io") else done,
             "interruption": text,
@@ -153,10 +156,10 @@ class MomentPage:
         row = {"address": at, "code": code.hex().upper(), "name": name, "operands": operands}
         return row | ({"source": self.source.text_at(at)} if self.source else {})
 
-    def storage(self, storage: Storage, now: dict[str, Any], address: int) -> dict[str, Any]:
+    def storage(self, storage: Storage, now: Any, address: int) -> dict[str, Any]:
         rows = storage.rows(address)
         labels = [self.source.labels_in(row[0], ROW) if self.source else [] for row in rows]
-        key = now["keys"][(rows[0][0] if rows else 0) // BLOCK]
+        key = now.keys[(rows[0][0] if rows else 0) // BLOCK]
         return {
             "storage": rows,
             "labels": labels,
@@ -188,7 +191,7 @@ class MomentPage:
         shown.sort(key=lambda item: (item[0], -item[2]))
         return shown[-MOST_LINES:]
 
-    def files(self, event: int, user: str, now: dict[str, Any]) -> list[dict[str, Any]]:
+    def files(self, event: int, user: str, now: Any) -> list[dict[str, Any]]:
         """What the user printed and punched: closed files, and what is open."""
         closed = [
             file
@@ -199,7 +202,7 @@ class MomentPage:
             file_of(heading.removeprefix("== "), place, heading[3:6], entries_in(body))
             for place, heading, body in closed[-MOST_FILES:]
         ]
-        printer, punch = now["printer"]["entries"], now["punch"]["entries"]
+        printer, punch = now.devices.printer.entries, now.devices.punch.entries
         if printer:
             lines = [f"{code:02X} {line_text(data)}" for code, data in printer]
             found.append(file_of("printer, open", None, "PRT", lines))
@@ -230,12 +233,12 @@ def places_in(code: bytes, registers: list[int], storage: Storage) -> dict[str, 
 
 
 def interruption_of(
-    now: dict[str, Any], before: dict[str, Any], storage: Storage, done: dict[str, Any] | None
+    now: Any, before: Any, storage: Storage, done: dict[str, Any] | None
 ) -> tuple[str, str]:
     """The kind of the interruption in which a unit ended, and what is said of it; nothing if it ended in none."""
     first, count = LOW_ROWS[0], LOW_ROWS[-1] + ROW - LOW_ROWS[0]
     old = storage.old.storage_of(storage.user, first, count)
-    words = ["".join(psw_of(state["psw"])["words"]) for state in (before, now)]
+    words = ["".join(psw_of(cpu.psw)["words"]) for cpu in (before, now)]
     psws = [bytes.fromhex(text) for text in words]
     may_call = done is not None and done["name"] in ("SVC", "EX")
     kind, stored = interruption(*psws, old, storage.at(first, count), may_call)
@@ -246,20 +249,20 @@ def interruption_of(
     return kind, f"{INTERRUPTION_NAMES[kind]} interruption, code {code} {cause}".rstrip()
 
 
-def first_address(storage: Storage, now: dict[str, Any]) -> int:
+def first_address(storage: Storage, now: Any) -> int:
     """Where a user would look first: at his next instruction, or at the first byte that is not zero."""
-    address = now["psw"]["address"]
+    address = now.machine.cpu.psw.address
     if any(storage.at(address, 2)):
         return max(0, (address & -ROW) - ROWS_BEFORE * ROW)
     return storage.first_used() & -ROW
 
 
-def psw_of(psw: dict[str, Any]) -> dict[str, Any]:
+def psw_of(psw: Any) -> dict[str, Any]:
     """The fields of a PSW, and its two words."""
-    bits = psw["ec"] << 3 | psw["machine check"] << 2 | psw["wait"] << 1 | psw["problem"]
-    first = psw["system mask"] << 24 | psw["key"] << 20 | bits << 16
-    second = (psw["cc"] << 4 | psw["program mask"]) << 24 | psw["address"]
-    return psw | {"words": [f"{first:08X}", f"{second:08X}"]}
+    bits = psw.extended << 3 | psw.machine_check << 2 | psw.wait << 1 | psw.problem
+    first = psw.system_mask << 24 | psw.key << 20 | bits << 16
+    second = (psw.condition << 4 | psw.program_mask) << 24 | psw.address
+    return psw._asdict() | {"words": [f"{first:08X}", f"{second:08X}"]}
 
 
 def numbers(now: list[int], before: list[int]) -> list[list[str]]:
@@ -274,10 +277,10 @@ def numbers(now: list[int], before: list[int]) -> list[list[str]]:
 
 def system_of(view: UserView) -> dict[str, Any]:
     return {
-        "frames": places_of(view.frames),
-        "slots": places_of(view.slots),
-        "pins": [place for place, is_pinned in enumerate(view.pins) if is_pinned],
-        "page ins": view.page_ins,
+        "frames": places_of(view.supply.owners),
+        "slots": places_of(view.supply.slots),
+        "pins": [place for place, is_pinned in enumerate(view.supply.pins) if is_pinned],
+        "page ins": view.supply.page_ins,
         "volumes": volumes_of(view),
     }
 
@@ -292,17 +295,19 @@ def volumes_of(view: UserView) -> list[dict[str, Any]]:
     """Each volume's cylinders: how full, and whose."""
     found = []
     for number, volume in enumerate(view.volumes):
-        owners: list = [None] * len(volume["cylinders"])
+        owners: list = [None] * len(volume.cylinders)
         for name, disk in own_disks(view, number):
-            for at in range(disk["count"]):
-                has_arm = int(at == disk["cylinder"])
-                owner = [name, f"{disk['address']:03X}", int(disk["writable"]), has_arm]
-                owners[disk["start"] + at] = owner
-        found.append({"serial": volume["serial"], "fill": volume["cylinders"], "owners": owners})
+            extent = disk.minidisk.extent
+            for at in range(extent.count):
+                has_arm = int(at == disk.minidisk.cylinder)
+                owner = [name, f"{disk.address:03X}", int(extent.writable), has_arm]
+                owners[extent.start + at] = owner
+        serial = volume.volser.decode("latin-1").strip()
+        found.append({"serial": serial, "fill": volume.cylinders, "owners": owners})
     return found
 
 
-def own_disks(view: UserView, volume: int) -> Iterator[tuple[str, dict[str, Any]]]:
+def own_disks(view: UserView, volume: int) -> Iterator[tuple[str, Any]]:
     """The minidisks on a volume, each with its user."""
     for name, user in view.users.items():
-        yield from ((name, disk) for disk in user["minidisks"] if disk["volume"] == volume)
+        yield from ((name, disk) for disk in user.minidisks if disk.volume == volume)

@@ -224,7 +224,7 @@ class Search:
     def value_in(self, view: UserView) -> Any:
         user, kind, number, _ = self.wanted
         if kind == REGISTER:
-            return view.users[user]["general"][number]
+            return view.users[user].machine.cpu.general[number]
         return view.storage_of(user, number & ~3, 4)
 
     def answer(self, hit: Hit | None) -> dict[str, Any]:

@@ -141,6 +141,7 @@ class Replay:
         result: PartResult = self.engine.checked(self.engine.program.answer, line=number)
         self.take(asked, result, when.decode()[:16])
         self.engine.progress.add(weight_of(asked.lines))
+        self.engine.entries += 1
 
     # --- states on the way ---
 
@@ -150,7 +151,7 @@ class Replay:
             return False
         self.looked = now
         is_asked = any(isinstance(item.asked, RecordingPlace) for item in self.sent)
-        return not is_asked and self.engine.states.is_due(self.engine.seconds())
+        return not is_asked and self.engine.states.is_due(self.engine.seconds_to_repeat())
 
     def ask_for_state(self, lines: int, when: bytes) -> None:
         place = self.reader.place(lines, when)
@@ -166,7 +167,7 @@ class Replay:
             engine.recording.add(engine.take_marks())
         if not engine.printouts.unwritten():
             engine.states.save_on_way(saved, place, engine.notes())
-        engine.states.tried_on_way(engine.seconds(), time.monotonic() - begun)
+        engine.states.tried_on_way(engine.seconds_to_repeat(), time.monotonic() - begun)
 
     def answer(self) -> SavedState | None:
         try:

@@ -234,7 +234,7 @@ class Run:
         event = len(self.steps) - (unit > 0)
         view = self.view_of(program)
         self.marks.append(Mark(event, unit, entry, turn, view.state))
-        self.room = PAGE * (len(view.frames) + len(view.slots))
+        self.room = PAGE * (len(view.supply.owners) + len(view.supply.slots))
         is_dense = len(self.marks) > MANY_STATES and self.spacing < MOST_SPACING
         if is_dense or self.is_full():
             self.forget_half()

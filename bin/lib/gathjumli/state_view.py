@@ -1,22 +1,25 @@
 """What a saved state shows (`SAVE` and `VIEW`, docs/man/vm370.1): the machines of all users, or that of one, as the program has them.
-Bytes are only read here; what each means is said where crates write it (the files saved.rt). A byte too many or too few is refused."""
+Bytes are only read here: which fields there are, and in which order, is said by the definitions from which the prover knows them
+(state_fields.py). A byte too many or too few is refused."""
 from __future__ import annotations
 
+from collections import namedtuple
 from collections.abc import Callable, Iterable, Iterator
 from array import array
 import struct
 from typing import Any, NamedTuple
 
 from gathjumli.cli import Failure, REFUSED
+from gathjumli.state_fields import FIELDS
 from gathjumli.state_pieces import Pieces
 
 PAGE = 4096
 # storage keys are of blocks of so many bytes
 BLOCK = 2048
-MODES = ("off", "stopped", "running")
-DEVICE_STATES = ("idle", "working", "pending")
 NUMBER = struct.Struct(">Q")
 ZERO_PAGE = bytes(PAGE)
+# so many values of a list are read at once
+MOST_AT_ONCE = 1024
 MALFORMED = "a state is cut, or not as the program writes it"
 
 
@@ -89,14 +92,34 @@ class Reader:
             raise malformed()
         return names[number]
 
-    def small_numbers(self, count: int, size: int) -> bytes:
-        """A list of so many numbers below 256, of this many bytes each, which is read quickly."""
-        raw = self.take((size + 1) * count)
-        found = raw[size :: size + 1]
-        written = bytearray((size + 1) * count)
-        written[0 :: size + 1] = b"\1" * count
-        written[size :: size + 1] = found
-        if raw != written or self.flag():
+    def many(self, size: int) -> Iterator[tuple[int, int]]:
+        """The places of a list of values that have so many bytes each, with a 1 before each: where some are, and how many."""
+        step = size + 1
+        while True:
+            self.need(1)
+            if not self.data[self.at]:
+                self.at += 1
+                return
+            self.need(step)
+            there = min((len(self.data) - self.at) // step, MOST_AT_ONCE)
+            marks = self.data[self.at : self.at + there * step : step]
+            end = marks.find(b"\0")
+            count = there if end < 0 else end
+            if marks[:count] != b"\1" * count:
+                raise malformed()
+            yield self.at, count
+            self.at += count * step
+
+    def numbers(self) -> list[int]:
+        found: list[int] = []
+        for at, count in self.many(8):
+            found += struct.unpack_from(">" + "xQ" * count, self.data, at)
+        return found
+
+    def flags(self) -> bytes:
+        """A list of flags, each a byte."""
+        found = b"".join(self.data[at + 1 : at + 2 * count : 2] for at, count in self.many(1))
+        if found.translate(None, b"\0\1"):
             raise malformed()
         return found
 
@@ -110,6 +133,50 @@ class Reader:
         """Refuses bytes that are left."""
         if self.at < len(self.data) or next(self.pieces, None):
             raise malformed()
+
+
+class Values:
+    """Reads values as FIELDS has them: those of a definition with several fields as a tuple with their names. What is given of a
+    definition is called in the place of that."""
+
+    def __init__(self, read: Reader, given: dict[str, Callable[[], Any]]) -> None:
+        self.read = read
+        self.made: dict[str, Callable[[], Any]] = {
+            "number": read.number,
+            "flag": read.flag,
+            "bytes": read.bytes,
+            **given,
+        }
+
+    def value(self, name: str) -> Any:
+        return self.named(name)()
+
+    def named(self, name: str) -> Callable[[], Any]:
+        if name not in self.made:
+            layout = FIELDS[name]
+            if isinstance(layout, list):
+                self.made[name] = self.fields(name, layout)
+            else:
+                self.made[name] = self.of(layout)
+        return self.made[name]
+
+    def fields(self, name: str, layout: list) -> Callable[[], Any]:
+        make = namedtuple(name, [field for field, _ in layout])._make  # type: ignore[misc]
+        readers = [self.of(one) for _, one in layout]
+        return lambda: make([reader() for reader in readers])
+
+    def of(self, layout: Any) -> Callable[[], Any]:
+        if isinstance(layout, str):
+            return self.named(layout)
+        read, (kind, what) = self.read, layout
+        if kind == "named":
+            return lambda: read.named(what)
+        if layout == ("each", "number"):
+            return read.numbers
+        if layout == ("each", "flag"):
+            return read.flags
+        one = self.of(what)
+        return (lambda: read.each(one)) if kind == "each" else (lambda: read.option(one))
 
 
 class PackedState(NamedTuple):
@@ -151,32 +218,35 @@ class UserView:
     """What a state has of one user, by name, of the frames and of his storage."""
 
     # those of all users are in no answer for one
-    volumes: list[dict[str, Any]] = []
+    volumes: list[Any] = []
 
     def __init__(
         self, arriving: Iterable[bytes], name: str, users: dict[str, int], pieces: Pieces
     ) -> None:
         self.read = Reader(arriving)
         self.pieces = pieces
-        self.users: dict[str, Any] = {name: self.user(users)}
-        self.read_supply()
+        found = Values(self.read, {"storage_bytes": self.storage}).value("user_part_bytes")
+        self.users: dict[str, Any] = {name: found.user}
+        # what is in frames and slots, and in which order frames are taken
+        self.supply = found.supply
         # the numbers of his pages
-        self.tables: dict[str, array] = {name: self.storage()}
+        self.tables: dict[str, array] = {name: found.storage}
         self.read.finish()
+        self.judge(users)
+
+    def judge(self, users: dict[str, int]) -> None:
+        """Refuses a user who is none of the directory, or has other storage keys."""
+        for user in self.users.values():
+            number = user.devices.user
+            if number >= len(users):
+                raise malformed()
+            if len(user.keys) != list(users.values())[number] * PAGE // BLOCK:
+                raise malformed()
 
     def used(self) -> Iterator[int]:
         """The numbers of all pieces that it needs."""
         for table in self.tables.values():
             yield from table
-
-    def read_supply(self) -> None:
-        """Reads what the frames and slots have, and in which order frames are taken."""
-        read = self.read
-        self.frames = read.each(lambda: read.option(self.pair))
-        self.slots = read.each(lambda: read.option(self.pair))
-        self.pins = read.small_numbers(len(self.frames), 1)
-        self.order = read.each(read.number)
-        self.page_ins = read.number()
 
     def page(self, name: str, number: int) -> bytes:
         """A page of a user's storage."""
@@ -189,88 +259,8 @@ class UserView:
         whole = b"".join(self.page(name, number) for number in range(low // PAGE, last + 1))
         return whole[low % PAGE :][:count]
 
-    def pair(self) -> tuple[int, int]:
-        return self.read.number(), self.read.number()
-
-    # --- users ---
-
-    def user(self, users: dict[str, int]) -> dict[str, Any]:
-        read = self.read
-        found: dict[str, Any] = {}
-        found["general"], found["control"] = read.each(read.number), read.each(read.number)
-        found["psw"] = self.psw()
-        found["pending"] = {"timer": read.flag(), "key": read.flag()}
-        found["subchannels"] = read.each(self.subchannel)
-        found["mode"] = read.named(MODES)
-        # printed lines, which the program forgets after each part
-        read.each(read.bytes)
-        return found | self.devices(users)
-
-    def devices(self, users: dict[str, int]) -> dict[str, Any]:
-        """The devices of a user, his files, minidisks and storage keys."""
-        read = self.read
-        found: dict[str, Any] = {"places": [read.option(read.number) for _ in range(4)]}
-        found["console"] = self.console()
-        found["reader"] = {"sense": read.number(), "left": read.bytes()}
-        found["punch"] = {"entries": self.entries(), "sense": read.number()}
-        found["punch"] |= {"punching": read.flag(), "card": read.bytes()}
-        found["printer"] = {"entries": self.entries(), "sense": read.number()}
-        found["printer"] |= {"printing": read.option(read.number), "line": read.bytes()}
-        found["target"] = read.option(read.number)
-        number = read.number()
-        found["decks"] = read.each(self.deck)
-        found["cards read"] = read.option(read.number)
-        found["closed"] = [read.each(self.file) for _ in ("punched", "printed")]
-        found["minidisks"] = read.each(self.minidisk)
-        if number >= len(users):
-            raise malformed()
-        pages = list(users.values())[number]
-        found["keys"] = read.small_numbers(pages * PAGE // BLOCK, 8)
-        return found
-
-    def psw(self) -> dict[str, Any]:
-        read = self.read
-        found = {name: read.number() for name in ("system mask", "key", "program mask")}
-        found |= {name: read.flag() for name in ("ec", "machine check", "wait", "problem")}
-        return found | {name: read.number() for name in ("cc", "address")}
-
-    def subchannel(self) -> dict[str, Any]:
-        read = self.read
-        found = {"address": read.number(), "state": read.named(DEVICE_STATES)}
-        return found | {
-            "word": read.number(),
-            "attention": read.flag(),
-            "start": read.number(),
-        }
-
-    def console(self) -> dict[str, Any]:
-        read = self.read
-        read.each(read.bytes)
-        found = {"unfinished": read.bytes(), "waiting": read.each(read.bytes)}
-        found |= {"sense": read.number(), "wanted": read.number()}
-        return found | {"ends line": read.flag(), "giving": read.bytes()}
-
-    def deck(self) -> dict[str, Any]:
-        read = self.read
-        label, sender = read.number(), read.option(read.number)
-        return {"label": label, "sender": sender, "cards": read.each(read.bytes)}
-
-    def file(self) -> tuple[int | None, list]:
-        return self.read.option(self.read.number), self.entries()
-
-    def entries(self) -> list[tuple[int, bytes]]:
-        return self.read.each(lambda: (self.read.number(), self.read.bytes()))
-
-    def minidisk(self) -> dict[str, Any]:
-        read = self.read
-        names = ("address", "volume", "start", "count")
-        found: dict[str, Any] = {name: read.number() for name in names}
-        found["writable"] = read.flag()
-        found |= {"cylinder": read.number(), "head": read.number()}
-        return found | {"sense": (read.number(), read.number())}
-
     def storage(self) -> array:
-        """The numbers of the pages of a storage."""
+        """The numbers of the pages of a storage, each of which has a mark before it, that alone if it is all zero."""
         read, keep = self.read, self.pieces.keep
         found = array(
             "I", [keep(read.take(PAGE)) if read.flag() else 0 for _ in range(read.number() // PAGE)]
@@ -287,20 +277,21 @@ class StateView(UserView):
         read = self.read = Reader(arriving)
         self.pieces = pieces
         self.head: list[tuple[int, int]] = []
-        self.ready = read.each(read.number)
-        self.serves = read.each(lambda: (read.number(), read.number()))
-        read.number()
-        self.volumes = read.each(self.volume)
-        self.users = dict(zip(users, read.each(lambda: self.user(users))))
-        self.read_supply()
-        self.cut_head()
-        self.tables = dict(zip(users, read.each(self.storage)))
-        read.cut()
-        read.each(lambda: (read.number(), read.number(), read.number()))
-        read.flag()
+        whole = Values(read, {"record_bytes": self.record})
+        self.tracks = whole.named("cylinder_bytes")
+        supply = whole.named("supply_bytes")
+        given = {"cylinder_bytes": self.cylinder, "storage_bytes": self.storage}
+        given["supply_bytes"] = lambda: self.before_storages(supply)
+        values = Values(read, given)
+        self.lines = values.value("lines_bytes")
+        system = values.value("system_bytes")
         read.finish()
-        if not len(users) == len(self.users) == len(self.tables):
+        self.volumes, self.supply = system.volumes, system.pool.supply
+        self.users = dict(zip(users, system.users))
+        self.tables = dict(zip(users, system.pool.storages))
+        if not len(users) == len(system.users) == len(system.pool.storages):
             raise malformed()
+        self.judge(users)
         self.state = self.packed(read.cut())
 
     def used(self) -> Iterator[int]:
@@ -308,8 +299,9 @@ class StateView(UserView):
 
     def packed(self, tail: bytes) -> PackedState:
         storages = [self.keep(table.tobytes()) for table in self.tables.values()]
-        general = [tuple(user["general"]) for user in self.users.values()]
-        return PackedState(self.head, storages, tail, self.read.size, general)
+        general = [tuple(user.machine.cpu.general) for user in self.users.values()]
+        # the list of storages ended with a mark
+        return PackedState(self.head, storages, tail[1:], self.read.size, general)
 
     def keep(self, piece: bytes) -> tuple[int, int]:
         return self.pieces.keep(piece), len(piece)
@@ -317,23 +309,18 @@ class StateView(UserView):
     def cut_head(self) -> None:
         self.head.append(self.keep(self.read.cut()))
 
-    # --- volumes ---
+    def before_storages(self, supply: Callable[[], Any]) -> Any:
+        found = supply()
+        self.cut_head()
+        return found
 
-    def volume(self) -> dict[str, Any]:
-        read = self.read
-        serial = read.bytes().decode("latin-1").strip()
-        read.number()
-        return {"serial": serial, "cylinders": read.each(self.cylinder)}
+    # --- volumes ---
 
     def cylinder(self) -> int:
         """How many bytes of records a cylinder has."""
         self.cut_head()
-        return sum(self.read.each(self.track))
+        return sum(sum(track.records) for track in self.tracks())
 
-    def track(self) -> int:
-        read = self.read
-        read.bytes()
-        total = 0
-        while read.flag():
-            total += len(read.bytes()) + len(read.bytes()) + len(read.bytes())
-        return total
+    def record(self) -> int:
+        """How many bytes a record has."""
+        return sum(len(self.read.bytes()) for _ in FIELDS["record_bytes"])
