@@ -1,7 +1,8 @@
 //! The words of the program: its machine's storage, its script and its volumes.
-ghost use Rattle.std.specs.Prelude.{◌≡◌, ◌≤◌, ℕ, IfErr, IfOk, OnOk, Some, codes, false, length};
-ghost use Rattle.std.specs.Prelude.{map, true};
+ghost use Rattle.std.specs.Prelude.{◌≡◌, ◌≤◌, ℕ, IfErr, IfOk, None, OnOk, Some, codes, false};
+ghost use Rattle.std.specs.Prelude.{length, map, true};
 ghost use Rattle.clap.specs.Words.{all_of, app_of, found_of, rows_of, rule_of};
+ghost use Rattle.program_host.specs.Ends.{TellsUse};
 ghost use Rattle.program_host.specs.Words.{HasNoFault, is_taken, rows_named, texts_of};
 ghost use Rattle.programs.specs.Arguments.{script_rule, volume_rule};
 ghost use Rattle.bare370.specs.Options.{IsNamed, command_of, gives_script};
@@ -18,6 +19,8 @@ use std::convert::AsStr;
 pub const MOST_VOLUMES: usize = 16;
 /// What is reported of more volumes.
 pub(crate) const MANY_VOLUMES: &str = "a machine has at most 16 volumes\n";
+/// What is reported where a path is missing.
+const NO_PATH: &str = "a path is missing\n";
 /// What is reported of a size of storage that no machine has.
 pub(crate) const WRONG_STORAGE: &str = "STORAGE is 8K to 4096K in steps of 4K, or 1M to 4M\n";
 
@@ -50,7 +53,7 @@ pub fn bare_arguments<'a, S: AsStr>(
 ) -> Result<BareOptions<'a>, UsageError>
     ensures ok { IfOk result (IsNamed (rows_named (command_of program.entry.now)
         (map S.text words.entry.now))) }
-    ensures few { IfOk result (λ options. length options.volumes.items ≤ MOST_VOLUMES) }
+    ensures few { IfOk result (λ options. length options.volumes.items ≤ 16) }
     ensures taken { OnOk result (HasNoFault (command_of program.entry.now)
         (map S.text words.entry.now)) }
     ensures err { (pages : ℕ) →
@@ -58,7 +61,7 @@ pub fn bare_arguments<'a, S: AsStr>(
         is_taken (command_of program.entry.now) (map S.text words.entry.now) ≡ true →
         gives_script rows ≡ true →
         storage_named rows ≡ Some pages →
-        length (texts_of (all_of (codes "VOLUME") rows)) ≤ MOST_VOLUMES →
+        length (texts_of (all_of (codes "VOLUME") rows)) ≤ 16 →
         IfErr result (λ error. error ≡ UsageError.Memory) }
 {
     let command = command(alloc, program)?;
@@ -70,15 +73,23 @@ pub fn bare_arguments<'a, S: AsStr>(
 /// or too many.
 fn options_in<'a>(alloc: Global, matches: &ArgMatches<'a>) -> Result<BareOptions<'a>, UsageError>
     ensures ok { IfOk result (IsNamed (rows_of (found_of matches.now))) }
-    ensures few { IfOk result (λ options. length options.volumes.items ≤ MOST_VOLUMES) }
+    ensures few { IfOk result (λ options. length options.volumes.items ≤ 16) }
     ensures err { (pages : ℕ) → gives_script (rows_of (found_of matches.now)) ≡ true →
         storage_named (rows_of (found_of matches.now)) ≡ Some pages →
         length (texts_of (all_of (codes "VOLUME") (rows_of (found_of matches.now))))
-        ≤ MOST_VOLUMES →
+        ≤ 16 →
         IfErr result (λ error. error ≡ UsageError.Memory) }
+    ensures path { gives_script (rows_of (found_of matches.now)) ≡ false
+        → IfErr result (TellsUse NO_PATH.now) }
+    ensures storage { gives_script (rows_of (found_of matches.now)) ≡ true
+        → storage_named (rows_of (found_of matches.now)) ≡ None
+        → IfErr result (TellsUse WRONG_STORAGE.now) }
+    ensures many { (pages : ℕ) → gives_script (rows_of (found_of matches.now)) ≡ true
+        → storage_named (rows_of (found_of matches.now)) ≡ Some pages
+        → IfErr result (TellsUse MANY_VOLUMES.now) }
 {
     let Some(script) = text_of(matches, "SCRIPT") else {
-        return Err(usage(String::from_str(alloc, "a path is missing\n").ok()));
+        return Err(usage(String::from_str(alloc, NO_PATH).ok()));
     };
     let Some(storage) = storage_in(matches) else {
         return Err(usage(String::from_str(alloc, WRONG_STORAGE).ok()));

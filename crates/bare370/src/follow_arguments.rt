@@ -1,6 +1,8 @@
 //! The words of the program where it follows a script that it is given part by part.
-ghost use Rattle.std.specs.Prelude.{◌≡◌, ◌≤◌, ℕ, IfErr, IfOk, OnOk, Some, codes, length, map, true};
+ghost use Rattle.std.specs.Prelude.{◌≡◌, ◌≤◌, ℕ, IfErr, IfOk, None, OnOk, Some, codes, length};
+ghost use Rattle.std.specs.Prelude.{map, true};
 ghost use Rattle.clap.specs.Words.{all_of, app_of, found_of, rows_of};
+ghost use Rattle.program_host.specs.Ends.{TellsUse};
 ghost use Rattle.program_host.specs.Words.{HasNoFault, is_taken, rows_named, texts_of};
 ghost use Rattle.bare370.specs.FollowOptions.{IsNamed, command_of};
 ghost use Rattle.bare370.specs.Options.{storage_named};
@@ -40,14 +42,14 @@ pub fn follow_arguments<'a, S: AsStr>(
 ) -> Result<MachineFollowOptions<'a>, UsageError>
     ensures ok { IfOk result (IsNamed (rows_named (command_of program.entry.now)
         (map S.text words.entry.now))) }
-    ensures few { IfOk result (λ options. length options.volumes.items ≤ MOST_VOLUMES) }
+    ensures few { IfOk result (λ options. length options.volumes.items ≤ 16) }
     ensures taken { OnOk result (HasNoFault (command_of program.entry.now)
         (map S.text words.entry.now)) }
     ensures err { (pages : ℕ) →
         let rows = rows_named (command_of program.entry.now) (map S.text words.entry.now) in
         is_taken (command_of program.entry.now) (map S.text words.entry.now) ≡ true →
         storage_named rows ≡ Some pages →
-        length (texts_of (all_of (codes "VOLUME") rows)) ≤ MOST_VOLUMES →
+        length (texts_of (all_of (codes "VOLUME") rows)) ≤ 16 →
         IfErr result (λ error. error ≡ UsageError.Memory) }
 {
     let command = command(alloc, program)?;
@@ -62,11 +64,15 @@ fn options_in<'a>(
     matches: &ArgMatches<'a>,
 ) -> Result<MachineFollowOptions<'a>, UsageError>
     ensures ok { IfOk result (IsNamed (rows_of (found_of matches.now))) }
-    ensures few { IfOk result (λ options. length options.volumes.items ≤ MOST_VOLUMES) }
+    ensures few { IfOk result (λ options. length options.volumes.items ≤ 16) }
     ensures err { (pages : ℕ) → storage_named (rows_of (found_of matches.now)) ≡ Some pages →
         length (texts_of (all_of (codes "VOLUME") (rows_of (found_of matches.now))))
-        ≤ MOST_VOLUMES →
+        ≤ 16 →
         IfErr result (λ error. error ≡ UsageError.Memory) }
+    ensures storage { storage_named (rows_of (found_of matches.now)) ≡ None
+        → IfErr result (TellsUse WRONG_STORAGE.now) }
+    ensures many { (pages : ℕ) → storage_named (rows_of (found_of matches.now)) ≡ Some pages
+        → IfErr result (TellsUse MANY_VOLUMES.now) }
 {
     let Some(storage) = storage_in(matches) else {
         return Err(usage(String::from_str(alloc, WRONG_STORAGE).ok()));

@@ -4,8 +4,10 @@
 //!
 //! The transcript goes to standard output. A failure is one line on standard error, and its kind is
 //! the exit status.
-ghost use Rattle.std.specs.Prelude.{◌⊎◌, ℕ, [], IfErr, List, OnOk, map, string_bytes};
+ghost use Rattle.std.specs.Prelude.{◌≡◌, ◌⊎◌, ℕ, [], IfErr, List, OnOk, map, string_bytes};
+ghost use Rattle.program_host.specs.Ends.{IsEnd};
 ghost use Rattle.programs.specs.Arguments.{IsUnbegun};
+ghost use Rattle.programs.specs.Faults.{fault_text, unsaved_path};
 ghost use Rattle.programs.specs.Whole.{streams_of};
 ghost use Rattle.bare370.specs.Runs.{IsFailedProgram, IsFailedProgramFollowing};
 ghost use Rattle.bare370.specs.Runs.{IsProgramFollowing, IsWholeProgram};
@@ -13,11 +15,10 @@ ghost use Rattle.bare370.specs.Runs.{IsProgramFollowing, IsWholeProgram};
 use crate::arguments::bare_arguments;
 use crate::follow_arguments::follow_arguments;
 use crate::runs::{follow_machine, run_files};
-use program_host::{ProcessHost, ProgramEnd, ProgramHost, finish, wrong_use};
+use program_host::{ProgramEnd, ProgramHost, finish, wrong_use};
 use programs::Failure;
 use programs::words::asks_to_follow;
 use std::alloc::Global;
-use std::rt::{Env, Files};
 
 /// The program's name, as it says it.
 const PROGRAM: &str = "bare370";
@@ -39,13 +40,26 @@ The transcript goes to standard output, a fault as one line to standard error. E
 /// Runs the whole program: plays a script or, with `--follow`, follows one, writes the transcript,
 /// as its lines come if `is_watched` is true, and saves the volumes if `--save` is given. A failure
 /// is reported on standard error.
-pub fn bare_program<R: AllocGlobal + Files + Env + Input + Print + Eprint>(
-    rt: &R,
+pub fn bare_program<H: ProgramHost>(
+    alloc: Global,
+    host: &mut H,
     is_watched: bool,
-) -> ProgramEnd<Failure> {
-    let mut host = ProcessHost::new(rt);
-    let ended = run(rt.alloc(), &mut host, is_watched);
-    finish(rt.alloc(), &mut host, ended)
+) -> ProgramEnd<Failure>
+    ensures { IsEnd fault_text unsaved_path (λ failure. failure ≡ Failure.Memory)
+        (λ failure. failure ≡ Failure.Usage) (H.has_words host.old)
+        (IsUnbegun [] (H.has_no_text host.old))
+        (λ words. IsWholeProgram (streams_of H.gives H.File.remaining H.File.HostFile.failures
+        H.listens H.Input.remaining H.Input.HostFile.failures
+        H.prints H.Output.contents H.Output.held H.Output.HostFile.failures)
+        words is_watched)
+        (λ words. IsFailedProgram (streams_of H.gives H.File.remaining H.File.HostFile.failures
+        H.listens H.Input.remaining H.Input.HostFile.failures
+        H.prints H.Output.contents H.Output.held H.Output.HostFile.failures)
+        words is_watched)
+        (H.deeds host.old) (H.deeds host.new) result.ended }
+{
+    let ended = run(alloc, host, is_watched);
+    finish(alloc, host, ended)
 }
 
 /// Reads the arguments, and does what they ask: plays a script, or follows one whose parts are read

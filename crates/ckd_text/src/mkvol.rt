@@ -1,5 +1,7 @@
 //! The program `mkvol OUT TEXT`: the image of the volume that a text states.
-ghost use Rattle.std.specs.Prelude.{◌⊎◌, ℕ, IfErr, List, OnOk, map, string_bytes};
+ghost use Rattle.std.specs.Prelude.{◌≡◌, ◌⊎◌, ℕ, IfErr, List, None, OnOk, map, string_bytes};
+ghost use Rattle.program_host.specs.Ends.{IsEnd};
+ghost use Rattle.ckd_text.specs.Faults.{fault_text};
 ghost use Rattle.ckd_text.specs.Hosts.{creating, opening};
 ghost use Rattle.ckd_text.specs.Made.{IsMade, IsUnmade};
 ghost use Rattle.ckd_text.specs.Runs.{IsMadeNamed, IsUnbegun, IsUnmadeNamed};
@@ -8,10 +10,9 @@ use crate::arguments::{VolumePaths, volume_paths};
 use crate::faults::ToolFailure;
 use crate::reader::make_volume;
 use ckd_image::write_image;
-use program_host::{ProcessHost, ProgramEnd, ProgramHost, finish, wrong_use};
+use program_host::{ProgramEnd, ProgramHost, finish, wrong_use};
 use s370_num::host::read_all;
 use std::alloc::Global;
-use std::rt::{Env, Files};
 
 /// What is reported after a usage text: an example, and the exit statuses.
 const USAGE_NOTE: &str = "
@@ -28,12 +29,18 @@ A fault is one line on standard error. Exit statuses:
 ";
 
 /// Runs `mkvol`: makes the image of a text, and prints a failure on standard error.
-pub fn program<R: AllocGlobal + Files + Env + Input + Print + Eprint>(
-    rt: &R,
-) -> ProgramEnd<ToolFailure> {
-    let mut host = ProcessHost::new(rt);
-    let ended = run(rt.alloc(), &mut host);
-    finish(rt.alloc(), &mut host, ended)
+pub fn program<H: ProgramHost>(alloc: Global, host: &mut H) -> ProgramEnd<ToolFailure>
+    ensures { IsEnd fault_text (λ _. None) (λ failure. failure ≡ ToolFailure.Memory)
+        (λ failure. failure ≡ ToolFailure.Usage) (H.has_words host.old)
+        (IsUnbegun (H.has_no_text host.old))
+        (IsMadeNamed (opening H.gives) (creating H.creates) H.File.remaining H.Image.contents
+        H.Image.held)
+        (IsUnmadeNamed (opening H.gives) (creating H.creates) H.File.remaining
+        H.File.HostFile.failures H.Image.contents H.Image.HostFile.failures)
+        (H.deeds host.old) (H.deeds host.new) result.ended }
+{
+    let ended = run(alloc, host);
+    finish(alloc, host, ended)
 }
 
 /// Reads the words of the command line, and does what they ask.

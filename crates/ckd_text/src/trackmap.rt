@@ -1,5 +1,7 @@
 //! The program `trackmap IMAGE`: what the volume of an image has.
-ghost use Rattle.std.specs.Prelude.{◌⊎◌, ℕ, IfErr, List, OnOk, map, string_bytes};
+ghost use Rattle.std.specs.Prelude.{◌≡◌, ◌⊎◌, ℕ, IfErr, List, None, OnOk, map, string_bytes};
+ghost use Rattle.program_host.specs.Ends.{IsEnd};
+ghost use Rattle.ckd_text.specs.Faults.{fault_text};
 ghost use Rattle.ckd_text.specs.Hosts.{opening, printing};
 ghost use Rattle.ckd_text.specs.Mapped.{IsMapped, IsUnmapped};
 ghost use Rattle.ckd_text.specs.Runs.{IsMappedNamed, IsUnbegun, IsUnmappedNamed};
@@ -8,10 +10,9 @@ use crate::arguments::image_path;
 use crate::faults::ToolFailure;
 use crate::map::track_map;
 use ckd_image::read_image;
-use program_host::{ProcessHost, ProgramEnd, ProgramHost, finish, wrong_use};
+use program_host::{ProgramEnd, ProgramHost, finish, wrong_use};
 use s370_num::host::{HostWriter, write_all};
 use std::alloc::Global;
-use std::rt::{Env, Files};
 
 /// What is reported after a usage text: an example, and the exit statuses.
 const USAGE_NOTE: &str = "
@@ -29,12 +30,18 @@ The map goes to standard output, a fault as one line to standard error. Exit sta
 ";
 
 /// Runs `trackmap`: prints the map of an image, and prints a failure on standard error.
-pub fn program<R: AllocGlobal + Files + Env + Input + Print + Eprint>(
-    rt: &R,
-) -> ProgramEnd<ToolFailure> {
-    let mut host = ProcessHost::new(rt);
-    let ended = run(rt.alloc(), &mut host);
-    finish(rt.alloc(), &mut host, ended)
+pub fn program<H: ProgramHost>(alloc: Global, host: &mut H) -> ProgramEnd<ToolFailure>
+    ensures { IsEnd fault_text (λ _. None) (λ failure. failure ≡ ToolFailure.Memory)
+        (λ failure. failure ≡ ToolFailure.Usage) (H.has_words host.old)
+        (IsUnbegun (H.has_no_text host.old))
+        (IsMappedNamed (opening H.gives) (printing H.prints) H.File.remaining H.Output.contents
+        H.Output.held)
+        (IsUnmappedNamed (opening H.gives) (printing H.prints) H.File.remaining
+        H.File.HostFile.failures H.Output.contents H.Output.HostFile.failures)
+        (H.deeds host.old) (H.deeds host.new) result.ended }
+{
+    let ended = run(alloc, host);
+    finish(alloc, host, ended)
 }
 
 /// Reads the words of the command line, and does what they ask.

@@ -1,8 +1,8 @@
 -- The directory that a text states, and the fault of another text.
-use Rattle.std.specs.Prelude.{◌≡◌, ℕ, List, [], Result, Ok, Err}
+use Rattle.std.specs.Prelude.{◌≡◌, ◌⊎◌, ℕ, ◌+◌, List, [], ◌∷◌, Result, Ok, Err}
 use Rattle.text_words.specs.Lines.{lines_of, read_lines}
 use Rattle.cp_directory.specs.Users.{DirectoryUser}
-use Rattle.cp_directory.specs.Statements.{line_placed}
+use Rattle.cp_directory.specs.Statements.{LineTakesMemory, line_placed}
 use Rattle.cp_directory.specs.declared.faults.LineFault.{LineFault}
 use Rattle.cp_directory.specs.declared.faults.LineFault.TheVariants as faults
 use Rattle.cp_directory.specs.declared.faults.DirError.{DirError}
@@ -55,3 +55,11 @@ abbrev pub Places : Result (List DirectoryUser) LineFault → List DirectoryUser
 Places placed new (Ok done) = placed ≡ Ok new
 Places placed new (Err lines.Memory) = Unit {0}
 Places placed new (Err (lines.Fault fault)) = placed ≡ Err fault
+
+-- memory may be refused at one of the lines that are left: it takes memory, and each line before it
+-- is read
+abbrev pub MayRefuseMemory : ℕ → List DirectoryUser → List (List ℕ) → Type 0
+MayRefuseMemory number users [] = ⊥
+MayRefuseMemory number users (line ∷ lines) = LineTakesMemory users line
+    ⊎ ((next : List DirectoryUser) × (line_placed number users line ≡ Ok next)
+    × MayRefuseMemory (number + 1) next lines)

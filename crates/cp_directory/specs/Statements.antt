@@ -1,5 +1,6 @@
 -- What one line states by its own words, and what is then wrong with it by the lines before it.
-use Rattle.std.specs.Prelude.{ℕ, ◌/◌, ◌==◌, ◌&&◌, ◌||◌, Bool, not, if◌then◌else◌, is_some, nat_le}
+use Rattle.std.specs.Prelude.{◌≡◌, ℕ, ◌/◌, ◌==◌, ◌&&◌, ◌||◌, Bool, false, not, if◌then◌else◌}
+use Rattle.std.specs.Prelude.{is_some, nat_le}
 use Rattle.std.specs.Prelude.{List, [], ◌∷◌, ◌++◌, length, codes, Option, Some, None, Result, Ok}
 use Rattle.std.specs.Prelude.{Err}
 use Rattle.std.specs.Option.{option_and_then, option_map}
@@ -31,6 +32,11 @@ pub data Stated : Type 0 where
   Disk : ℕ → Extent → Stated
 
 -- ---- by the words of the line
+
+-- the word of which there is one
+abbrev pub the_one : List (List ℕ) → Option (List ℕ)
+the_one (word ∷ []) = Some word
+the_one _ = None
 
 -- a user, where the name, the password and the size are spelled right
 abbrev pub user_of : List ℕ → List ℕ → List ℕ → Option Stated
@@ -189,3 +195,21 @@ words_placed line users (verb ∷ operands) = and_then (stated_by verb operands)
 abbrev pub line_placed : ℕ → List DirectoryUser → List ℕ → Result (List DirectoryUser) LineFault
 line_placed number users line = if is_comment line then Ok users
     else words_placed number users (words_of line)
+
+-- ---- what takes memory
+
+-- a statement takes memory for a user or a minidisk, if it has no fault after these users
+abbrev pub TakesMemory : List DirectoryUser → Stated → Type 0
+TakesMemory users (User name kilobytes) = first_fault (faults_of users (User name kilobytes)) ≡ None
+TakesMemory users (Device kind address) = ⊥
+TakesMemory users (Disk address extent) = first_fault (faults_of users (Disk address extent)) ≡ None
+
+-- the words of a line take memory if they state what does
+abbrev pub WordsTakeMemory : List DirectoryUser → List (List ℕ) → Type 0
+WordsTakeMemory users [] = ⊥
+WordsTakeMemory users (verb ∷ operands) =
+    (statement : Stated) × (stated_by verb operands ≡ Ok statement) × TakesMemory users statement
+
+-- a line takes memory by its words, if it is no comment
+abbrev pub LineTakesMemory : List DirectoryUser → List ℕ → Type 0
+LineTakesMemory users line = (is_comment line ≡ false) × WordsTakeMemory users (words_of line)

@@ -1,6 +1,7 @@
 //! What the words of a device's statement state.
-ghost use Rattle.std.specs.Prelude.{◌≡◌, map};
+ghost use Rattle.std.specs.Prelude.{◌≡◌};
 ghost use Rattle.std.specs.Option.{option_map};
+ghost use Rattle.text_words.specs.Words.{words_of};
 ghost use Rattle.cp_directory.specs.Statements.{address_of, console_of, console_stated, disk_of};
 ghost use Rattle.cp_directory.specs.Statements.{disk_stated};
 ghost use Rattle.cp_directory.specs.Statements.{extent_spelled, low_address, spool_kind_of};
@@ -9,21 +10,21 @@ ghost use Rattle.cp_directory.specs.Spelled.{stated};
 
 use crate::devices::DeviceKind;
 use crate::extent::{DiskMode, SpelledExtent, Volser};
-use crate::spelling::Statement;
+use crate::spelling::{Statement, last_word};
 use s370_num::DevAddr;
 use text_words::numbers::{decimal_of, hexadecimal_of};
+use text_words::words::next_word;
 
 /// The highest address of a device.
 const HIGHEST_ADDRESS: u32 = 0x5FF;
 
 /// Returns what `CONSOLE address 3215` states, of which these are the operands; None if malformed.
-pub fn read_console<'a>(operands: &[&'a [u8]]) -> Option<Statement<'a>>
-    ensures { option_map stated result ≡ console_stated (map (λ w. w.now) operands.now) }
+pub fn read_console(operands: &[u8]) -> Option<Statement<'_>>
+    ensures { option_map stated result ≡ console_stated (words_of operands.now) }
 {
-    match operands {
-        [address, model] => console_of(address, model),
-        _ => None,
-    }
+    let (address, rest) = next_word(operands)?;
+    let model = last_word(rest)?;
+    console_of(address, model)
 }
 
 /// Returns the statement of a console at this address; None if the address or the model is
@@ -38,13 +39,12 @@ fn console_of<'a>(address: &'a [u8], model: &[u8]) -> Option<Statement<'a>>
 }
 
 /// Returns what `SPOOL address kind` states, of which these are the operands; None if malformed.
-pub fn read_spool<'a>(operands: &[&'a [u8]]) -> Option<Statement<'a>>
-    ensures { option_map stated result ≡ spool_stated (map (λ w. w.now) operands.now) }
+pub fn read_spool(operands: &[u8]) -> Option<Statement<'_>>
+    ensures { option_map stated result ≡ spool_stated (words_of operands.now) }
 {
-    match operands {
-        [address, kind] => spool_of(address, kind),
-        _ => None,
-    }
+    let (address, rest) = next_word(operands)?;
+    let kind = last_word(rest)?;
+    spool_of(address, kind)
 }
 
 /// Returns the statement of a device of this kind at this address; None if one of them is
@@ -75,15 +75,16 @@ fn spool_kind_of(word: &[u8]) -> Option<DeviceKind>
 
 /// Returns what `MDISK address 3330 start count volser mode` states, of which these are the
 /// operands; None if malformed.
-pub fn read_minidisk<'a>(operands: &[&'a [u8]]) -> Option<Statement<'a>>
-    ensures { option_map stated result ≡ disk_stated (map (λ w. w.now) operands.now) }
+pub fn read_minidisk(operands: &[u8]) -> Option<Statement<'_>>
+    ensures { option_map stated result ≡ disk_stated (words_of operands.now) }
 {
-    match operands {
-        [address, model, start, count, volser, mode] => {
-            disk_of(address, model, extent_spelled(start, count, volser, mode))
-        }
-        _ => None,
-    }
+    let (address, rest) = next_word(operands)?;
+    let (model, rest) = next_word(rest)?;
+    let (start, rest) = next_word(rest)?;
+    let (count, rest) = next_word(rest)?;
+    let (volser, rest) = next_word(rest)?;
+    let mode = last_word(rest)?;
+    disk_of(address, model, extent_spelled(start, count, volser, mode))
 }
 
 /// Returns the statement of a minidisk at this address with this extent; None if there is no

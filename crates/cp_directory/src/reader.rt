@@ -1,9 +1,11 @@
 //! The reader of directories: line by line, and each statement after those before it.
-ghost use Rattle.std.specs.Prelude.{◌≡◌, ℕ, IfOk, IfErr, Ok};
-ghost use Rattle.cp_directory.specs.Directories.{IsRefusal, Places, directory_of};
+ghost use Rattle.std.specs.Prelude.{◌≡◌, ℕ, [], IfOk, IfErr, Ok, Err};
+ghost use Rattle.text_words.specs.Lines.{lines_of};
+ghost use Rattle.cp_directory.specs.Directories.{IsRefusal, MayRefuseMemory, Places, directory_of};
 ghost use Rattle.cp_directory.specs.Grammar.{IsLawful, ReadsGrammar};
 ghost use Rattle.cp_directory.specs.Spelled.{kilobytes, stated};
 ghost use Rattle.cp_directory.specs.Statements as said;
+ghost use Rattle.cp_directory.specs.Statements.{LineTakesMemory, TakesMemory};
 ghost use Rattle.cp_directory.specs.Statements.{line_placed, placed};
 
 use crate::devices::DeviceKind;
@@ -16,15 +18,16 @@ use crate::spelling::{SpelledSize, Statement, read_statement, size_of};
 use s370_num::DevAddr;
 use std::alloc::Global;
 use text_words::lines::{is_comment, numbered_lines};
-use text_words::words::words_of;
+use text_words::words::next_word;
 use user_names::MOST_USERS;
 
 /// Returns the directory that a text states, or the number of its first faulty line and that line's
 /// first fault.
 ///
-/// A text outside the grammar is refused by its first faulty line and that line's first fault, and
-/// [`DirError::Memory`] is the answer only where a growth was refused. A directory has at most 64
-/// users of different names, and of two of its extents that share a cylinder both are read-only.
+/// A text outside the grammar is refused by its first faulty line and that line's first fault.
+/// [`DirError::Memory`] is the answer only if a growth was refused for a user or a minidisk on a
+/// line before that one. A directory has at most 64 users of different names, and of two of its
+/// extents that share a cylinder both are read-only.
 ///
 /// # Errors
 ///
@@ -46,6 +49,8 @@ pub fn read_directory(alloc: Global, text: &[u8]) -> Result<Directory, DirError>
     ensures ok { IfOk result (λ users. directory_of text.now ≡ Ok users) }
     ensures lawful { IfOk result IsLawful }
     ensures err { IfErr result (IsRefusal (directory_of text.now)) }
+    ensures memory { result ≡ Err DirError.Memory
+        → MayRefuseMemory 1 [] (lines_of text.now) }
 {
     let mut directory = Directory::new(alloc);
     for line in numbered_lines(text) {
@@ -66,21 +71,19 @@ fn read_line(
     number: usize,
     line: &[u8],
 ) -> Result<(), StatementError>
-    ensures { Places (line_placed number directory.old line.now) directory.new result }
+    ensures places { Places (line_placed number directory.old line.now) directory.new result }
+    ensures memory { result ≡ Err StatementError.Memory
+        → LineTakesMemory directory.old line.now }
 {
     if is_comment(line) {
         return Ok(());
     }
-    let words = match words_of(alloc, line) {
-        Ok(words) => words,
-        Err(_) => return Err(StatementError::Memory),
+    let Some((verb, operands)) = next_word(line) else {
+        return Ok(());
     };
-    match words.as_slice() {
-        [] => Ok(()),
-        [verb, operands @ ..] => match read_statement(verb, operands) {
-            Ok(statement) => place(alloc, directory, number, statement),
-            Err(fault) => Err(StatementError::Fault(fault)),
-        },
+    match read_statement(verb, operands) {
+        Ok(statement) => place(alloc, directory, number, statement),
+        Err(fault) => Err(StatementError::Fault(fault)),
     }
 }
 
@@ -92,7 +95,10 @@ fn place(
     line: usize,
     statement: Statement<'_>,
 ) -> Result<(), StatementError>
-    ensures { Places (placed line directory.old (stated statement.entry)) directory.new result }
+    ensures places { Places (placed line directory.old (stated statement.entry)) directory.new
+        result }
+    ensures memory { result ≡ Err StatementError.Memory
+        → TakesMemory directory.old (stated statement.entry) }
 {
     match statement {
         Statement::User(name, size) => place_user(alloc, directory, name, size),
@@ -109,8 +115,10 @@ fn place_user(
     name: UserName,
     spelled: SpelledSize<'_>,
 ) -> Result<(), StatementError>
-    ensures { (line : ℕ) → let user = said.User name (kilobytes spelled.entry) in
+    ensures places { (line : ℕ) → let user = said.User name (kilobytes spelled.entry) in
         Places (placed line directory.old user) directory.new result }
+    ensures memory { result ≡ Err StatementError.Memory
+        → TakesMemory directory.old (said.User name (kilobytes spelled.entry)) }
 {
     if directory.contains(name.as_bytes()) {
         return Err(StatementError::Fault(LineFault::DuplicateUser));
@@ -135,8 +143,10 @@ fn place_device(
     kind: DeviceKind,
     address: DevAddr,
 ) -> Result<(), StatementError>
-    ensures { (line : ℕ) → Places (placed line directory.old (said.Device kind address))
+    ensures places { (line : ℕ) → Places (placed line directory.old (said.Device kind address))
         directory.new result }
+    ensures memory { result ≡ Err StatementError.Memory
+        → TakesMemory directory.old (said.Device kind address) }
 {
     let Some(user) = directory.last() else {
         return Err(StatementError::Fault(LineFault::Syntax));
@@ -159,7 +169,10 @@ fn place_minidisk(
     address: DevAddr,
     spelled: SpelledExtent,
 ) -> Result<(), StatementError>
-    ensures { Places (placed line directory.old (said.Disk address spelled)) directory.new result }
+    ensures places { Places (placed line directory.old (said.Disk address spelled)) directory.new
+        result }
+    ensures memory { result ≡ Err StatementError.Memory
+        → TakesMemory directory.old (said.Disk address spelled) }
 {
     let Some(user) = directory.last() else {
         return Err(StatementError::Fault(LineFault::Syntax));

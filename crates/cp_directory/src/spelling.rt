@@ -1,11 +1,13 @@
 //! What a line's words state, whatever is before the line.
-ghost use Rattle.std.specs.Prelude.{◌≡◌, map, min};
+ghost use Rattle.std.specs.Prelude.{◌≡◌, ◌∷◌, [], MatchOption, None, min};
 ghost use Rattle.std.specs.Option.{option_map};
 ghost use Rattle.std.specs.List.{list_all};
 ghost use Rattle.text_words.specs.Numbers.{is_digit};
+ghost use Rattle.text_words.specs.Words.{words_of};
 ghost use Rattle.cp_directory.specs.Sizes.{is_number, kilobytes_of, kilobytes_by, pages_of, number};
 ghost use Rattle.cp_directory.specs.Sizes.{storage_of, unit_of};
-ghost use Rattle.cp_directory.specs.Statements.{stated_by, user_of, user_stated, well_formed};
+ghost use Rattle.cp_directory.specs.Statements.{stated_by, the_one, user_of, user_stated};
+ghost use Rattle.cp_directory.specs.Statements.{well_formed};
 ghost use Rattle.cp_directory.specs.Spelled.{kilobytes, kilobytes_in, stated, stated_result};
 
 use crate::device_spelling::{read_console, read_minidisk, read_spool};
@@ -16,6 +18,7 @@ use crate::name::{UserName, is_short_word};
 use crate::storage::StorageSize;
 use s370_num::DevAddr;
 use text_words::numbers::is_digit;
+use text_words::words::next_word;
 
 /// The letter of a size.
 #[derive(Clone, Copy)]
@@ -48,8 +51,8 @@ pub enum Statement<'a> {
 /// # Errors
 ///
 /// A `LineFault`: the first fault of the statement.
-pub fn read_statement<'a>(verb: &[u8], operands: &[&'a [u8]]) -> Result<Statement<'a>, LineFault>
-    ensures { stated_result result ≡ stated_by verb.now (map (λ w. w.now) operands.now) }
+pub fn read_statement<'a>(verb: &[u8], operands: &'a [u8]) -> Result<Statement<'a>, LineFault>
+    ensures { stated_result result ≡ stated_by verb.now (words_of operands.now) }
 {
     if verb == b"USER".as_slice() {
         well_formed(read_user(operands))
@@ -76,12 +79,24 @@ fn well_formed(statement: Option<Statement<'_>>) -> Result<Statement<'_>, LineFa
 
 /// Returns what `USER name password storage` states, of which these are the operands; None if
 /// malformed.
-fn read_user<'a>(operands: &[&'a [u8]]) -> Option<Statement<'a>>
-    ensures { option_map stated result ≡ user_stated (map (λ w. w.now) operands.now) }
+fn read_user(operands: &[u8]) -> Option<Statement<'_>>
+    ensures { option_map stated result ≡ user_stated (words_of operands.now) }
 {
-    match operands {
-        [name, password, size] => user_of(name, password, size),
-        _ => None,
+    let (name, rest) = next_word(operands)?;
+    let (password, rest) = next_word(rest)?;
+    let size = last_word(rest)?;
+    user_of(name, password, size)
+}
+
+/// Returns the word that a text has; None if it has none, or more than one.
+pub fn last_word(text: &[u8]) -> Option<&[u8]>
+    ensures { MatchOption result (the_one (words_of text.now) ≡ None)
+        (λ word. words_of text.now ≡ word.now ∷ []) }
+{
+    let (word, rest) = next_word(text)?;
+    match next_word(rest) {
+        Some(_) => None,
+        None => Some(word),
     }
 }
 

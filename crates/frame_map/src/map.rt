@@ -1,6 +1,6 @@
 //! The map: a line for each run of places that have successive pages of one user, and how many are
 //! free.
-ghost use Rattle.std.specs.Prelude.{◌≡◌, ◌<◌, ◌≤◌, length};
+ghost use Rattle.std.specs.Prelude.{◌≡◌, ◌+◌, ◌-◌, ◌<◌, ◌≤◌, None, false, length, slice_index_or};
 ghost use Rattle.frame_map.specs.Runs.{AreTogether, follows};
 
 use crate::places::{Owner, Places};
@@ -56,6 +56,9 @@ fn run_length(places: &[Option<Owner>]) -> usize
     ensures some { 0 < result }
     ensures most { result ≤ length places.now }
     ensures together { AreTogether places.now result }
+    ensures longest { result < length places.now
+        → follows (slice_index_or places.now (result - 1) None)
+        (slice_index_or places.now result None) ≡ false }
 {
     let mut count = 1;
     while count < places.len() && follows(places[count - 1], places[count]) {

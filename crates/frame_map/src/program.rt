@@ -3,16 +3,25 @@
 //! map of frames and slots is printed.
 //!
 //! Its refusals and its exit statuses are those of `vm370`; what that would print is not kept.
+ghost use Rattle.std.specs.Prelude.{◌≡◌, ◌⊎◌, ◌-◌, ◌==◌, ◌∷◌, [], length, slice_index_or, IfErr};
+ghost use Rattle.std.specs.Prelude.{IfOk, None, OnOk};
+ghost use Rattle.cp_core.specs.System.{SystemView};
+ghost use Rattle.program_host.specs.Deeds.{Adds, Opens};
+ghost use Rattle.sessions.specs.Follow.{Became};
+ghost use Rattle.sessions.specs.Schedule.{Scene};
+ghost use Rattle.vm370.specs.Goes.{system_goes};
+ghost use Rattle.frame_map.specs.Maps.{ComesToNothing, IsFileAt, IsFollowedAt, IsNoState};
+ghost use Rattle.frame_map.specs.Maps.{IsRefusedPart, IsRestoredAt, IsUnfollowed, Never, with_end};
+
 use crate::arguments::{MapOptions, arguments};
 use crate::map::frame_map;
 use crate::nowhere::Nowhere;
-use program_host::{ProcessHost, ProgramEnd, ProgramHost, finish, wrong_use};
+use program_host::{ProgramEnd, ProgramHost, finish, wrong_use};
 use programs::{Failure, save_images, saved_paths};
 use s370_num::host::{HostWriter, read_all, write_all};
 use sessions::session::session;
 use sessions::{Detail, Follower, Part};
-use std::alloc::Global;
-use std::rt::{Env, Files};
+use std::alloc::{AllocError, Global};
 use vm370::SharedMachines;
 use vm370::runs::read_system;
 
@@ -40,12 +49,9 @@ The map goes to standard output, a fault as one line to standard error. Exit sta
 /// Runs the whole program: plays the script that its arguments name, prints the map of frames and
 /// slots that it leaves, and saves the volumes if `--save` is given; reports a failure on standard
 /// error.
-pub fn program<R: AllocGlobal + Files + Env + Input + Print + Eprint>(
-    rt: &R,
-) -> ProgramEnd<Failure> {
-    let mut host = ProcessHost::new(rt);
-    let ended = run(rt.alloc(), &mut host);
-    finish(rt.alloc(), &mut host, ended)
+pub fn program<H: ProgramHost>(alloc: Global, host: &mut H) -> ProgramEnd<Failure> {
+    let ended = run(alloc, host);
+    finish(alloc, host, ended)
 }
 
 /// Reads the arguments, the directory, the images and the script, plays the script, writes the map,
@@ -98,10 +104,17 @@ fn restored<H: ProgramHost>(
     host: &mut H,
     follower: Follower<SharedMachines>,
     state: &str,
-) -> Result<Follower<SharedMachines>, Failure> {
-    let mut file = host.open(state)?;
-    let bytes = read_all(alloc, &mut file)?;
-    Ok(follower.restored(alloc, &bytes)?)
+) -> Result<Follower<SharedMachines>, Failure>
+    ensures ok { IfOk result (IsRestoredAt H.gives H.File.remaining state.now follower) }
+    ensures deeds { OnOk result
+        (Adds (H.deeds host.old) (H.deeds host.new) (Opens state.now ∷ [])) }
+    ensures err { IfErr result
+        (ComesToNothing H.gives H.File.HostFile.failures state.now
+        (IsNoState H.gives H.File.remaining state.now) (H.deeds host.old) (H.deeds host.new)) }
+{
+    let bytes = read_file(alloc, host, state)?;
+    let restored = follower.restored(alloc, &bytes)?;
+    Ok(restored)
 }
 
 /// Does the script at this path, whose last line need not be ended, as one part, and returns the
@@ -111,16 +124,73 @@ fn follow<H: ProgramHost>(
     host: &mut H,
     follower: Follower<SharedMachines>,
     script: &str,
-) -> Result<SharedMachines, Failure> {
-    let mut file = host.open(script)?;
-    let mut text = read_all(alloc, &mut file)?;
-    if !text.is_empty() && text.last() != Some(&b'\n') {
-        let Ok(()) = text.push(b'\n') else {
-            return Err(Failure::Memory);
-        };
+) -> Result<SharedMachines, Failure>
+    ensures ok { IfOk result (IsFollowedAt H.gives H.File.remaining script.now follower) }
+    ensures deeds { OnOk result
+        (Adds (H.deeds host.old) (H.deeds host.new) (Opens script.now ∷ [])) }
+    ensures err { IfErr result
+        (ComesToNothing H.gives H.File.HostFile.failures script.now
+        (IsUnfollowed H.gives H.File.remaining script.now follower) (H.deeds host.old)
+        (H.deeds host.new)) }
+{
+    let bytes = read_file(alloc, host, script)?;
+    let text = with_end(bytes)?;
+    do_part(alloc, follower, &text)
+}
+
+/// Reads the file at a path to its end.
+fn read_file<H: ProgramHost>(alloc: Global, host: &mut H, path: &str) -> Result<Vec<u8>, Failure>
+    ensures ok { IfOk result (λ bytes. IsFileAt H.gives H.File.remaining path.now bytes.items) }
+    ensures deeds { OnOk result
+        (Adds (H.deeds host.old) (H.deeds host.new) (Opens path.now ∷ [])) }
+    ensures err { IfErr result
+        (ComesToNothing H.gives H.File.HostFile.failures path.now Never (H.deeds host.old)
+        (H.deeds host.new)) }
+{
+    let mut file = host.open(path)?;
+    let bytes = read_all(alloc, &mut file)?;
+    Ok(bytes)
+}
+
+/// Returns the text with the end of its last line, if it lacks that.
+fn with_end(text: Vec<u8>) -> Result<Vec<u8>, AllocError>
+    ensures { IfOk result (λ ended. ended.items ≡ with_end text.items) }
+{
+    let mut text = text;
+    if !is_ended(&text) {
+        text.push(b'\n')?;
     }
-    match follower.part(alloc, &text, &mut Nowhere)? {
-        Part::Done(follower) => Ok(follower.close(&mut Nowhere)?),
+    Ok(text)
+}
+
+/// Returns whether the last line of a text is ended, or the text is empty.
+fn is_ended(text: &[u8]) -> bool
+    ensures { result ≡ (slice_index_or text.now (length text.now - 1) 10 == 10) }
+{
+    match text {
+        [.., last] => *last == b'\n',
+        [] => true,
+    }
+}
+
+/// Does this part of a script, and returns the machines that it leaves.
+fn do_part(
+    alloc: Global,
+    follower: Follower<SharedMachines>,
+    text: &[u8],
+) -> Result<SharedMachines, Failure>
+    ensures ok { IfOk result (λ machines. (last : Scene SystemView)
+        × Became system_goes text.now follower (Part.Done last) None None
+        × (machines ≡ last.world)) }
+    ensures err { IfErr result (λ failure. (failure ≡ Failure.Memory)
+        ⊎ IsRefusedPart text.now follower failure) }
+{
+    let part = follower.part(alloc, text, &mut Nowhere)?;
+    match part {
+        Part::Done(follower) => {
+            let machines = follower.close(&mut Nowhere)?;
+            Ok(machines)
+        }
         Part::Refused(_same, line) => Err(Failure::Script(line)),
     }
 }

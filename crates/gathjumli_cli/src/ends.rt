@@ -3,15 +3,17 @@ ghost use Rattle.std.specs.Prelude.{◌≡◌};
 ghost use Rattle.std.specs.Process.{exit_status};
 ghost use Rattle.ckd_text.specs.Faults.{status_of as tool_status};
 ghost use Rattle.ckd_text.specs.declared.faults.ToolFailure.{ToolFailure};
+ghost use Rattle.logon_desk_cli.specs.Faults.{status_of as desk_status};
+ghost use Rattle.logon_desk_cli.specs.declared.faults.DeskFailure.{DeskFailure};
 ghost use Rattle.program_host.specs.Ends.{outcome_of};
 ghost use Rattle.program_host.specs.declared.ends.ProgramEnd.{ProgramEnd};
 ghost use Rattle.programs.specs.Faults.{status_of};
 ghost use Rattle.programs.specs.declared.faults.Failure.{Failure};
 
 use ckd_text::ToolFailure;
+use logon_desk_cli::DeskFailure;
 use program_host::ProgramEnd;
 use programs::Failure;
-use std::io;
 use std::process::{ExitCode, Termination};
 
 /// How a part ended, as the part says it.
@@ -22,7 +24,7 @@ pub enum PartEnd {
     /// The end of `mkvol` or `trackmap`.
     Volume(ProgramEnd<ToolFailure>),
     /// The end of `logondesk`.
-    Desk(io::Result<()>),
+    Desk(ProgramEnd<DeskFailure>),
     /// No part was named.
     NoPart,
 }
@@ -37,7 +39,9 @@ impl Termination for PartEnd {
             → exit_status result ≡ outcome_of status_of end.ended }
         ensures volume { (end : ProgramEnd ToolFailure) → self ≡ PartEnd.Volume end
             → exit_status result ≡ outcome_of tool_status end.ended }
-        ensures no_part { self ≡ PartEnd.NoPart → exit_status result ≡ WRONG_USE }
+        ensures desk { (end : ProgramEnd DeskFailure) → self ≡ PartEnd.Desk end
+            → exit_status result ≡ outcome_of desk_status end.ended }
+        ensures no_part { self ≡ PartEnd.NoPart → exit_status result ≡ 2 }
     {
         match self {
             PartEnd::Session(end) => end.report(rt),

@@ -3,3 +3,4 @@ pub mod Events
 pub mod Read
 pub mod Answered
 pub mod Histories
+pub mod Faults

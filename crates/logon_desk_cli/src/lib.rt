@@ -12,10 +12,12 @@
 //! ```
 #![tactic(auto)]
 
+mod faults;
 mod frame;
 mod laws;
 mod printing;
 pub mod program;
 
+pub use faults::DeskFailure;
 pub use laws::are_one_history;
 pub use program::Session;

@@ -12,14 +12,16 @@ ghost use Rattle.logon_desk_cli.specs.Events.{is_open, run};
 ghost use Rattle.logon_desk_cli.specs.Events.{served, takes, takes_next};
 ghost use Rattle.logon_desk_cli.specs.Printed.{printed};
 
+use crate::faults::DeskFailure;
 use crate::frame::{Frame, FrameError, TimedFrame, frame_of};
 use crate::printing::{print, print_number};
 use logon_desk::{DeskAction, LogonDesk, MOST_WAITING, Outputs};
+use program_host::{ProcessHost, ProgramEnd, ProgramHost, finish, wrong_use};
 use std::alloc::{AllocError, Global};
-use std::io::{self, BufRead, BufReader};
+use std::fs;
+use std::io::{BufRead, BufReader};
 use std::marker::Model;
 use std::rt::{Env, Files};
-use std::{env, fs};
 use terminal_lines::Bytes;
 use user_names::{MOST_USERS, UserNo};
 
@@ -30,22 +32,38 @@ const MOST_STRANGERS: usize = 80;
 const MOST_PLACES: usize = 1024;
 
 /// Runs the logon desk on the lines of the file that the argument after the part's name names, or of
-/// standard input, and writes what it does to standard output.
-///
-/// # Errors
-///
-/// An `io::Error`: a file failed, a word or a line is no UTF-8 text, or memory was refused.
-pub fn program<R: AllocGlobal + Env + Files + Input + Print>(rt: &R) -> io::Result<()> {
+/// standard input, and writes what it does to standard output; reports a failure on standard error.
+pub fn program<R: AllocGlobal + Env + Files + Input + Print + Eprint>(
+    rt: &R,
+) -> ProgramEnd<DeskFailure> {
+    let mut host = ProcessHost::new(rt);
+    let ended = run(rt, &mut host);
+    finish(rt.alloc(), &mut host, ended)
+}
+
+/// Takes the lines of the file that the arguments name, or of standard input. A wrong use is
+/// reported here.
+fn run<R: AllocGlobal + Env + Files + Input + Print + Eprint>(
+    rt: &R,
+    host: &mut ProcessHost<'_, R>,
+) -> Result<(), DeskFailure> {
     let alloc = rt.alloc();
-    match env::args(rt)?.nth(2) {
-        Some(path) => take_lines(rt, BufReader::new(alloc, fs::open(rt, path.as_str())?)?),
-        None => take_lines(rt, BufReader::new(alloc, rt.reader())?),
+    let words = match host.words(alloc) {
+        Ok(words) => words,
+        Err(error) => return Err(wrong_use(host, &error, "")),
+    };
+    match words.as_slice() {
+        [_, path, ..] => take_lines(rt, BufReader::new(alloc, fs::open(rt, path.as_str())?)?),
+        _ => take_lines(rt, BufReader::new(alloc, rt.reader())?),
     }
 }
 
 /// Takes lines and writes on standard output what the desk does for each, until they end or one is
 /// malformed or does not fit.
-fn take_lines<R: AllocGlobal + Print, B: BufRead + Drop>(rt: &R, reader: B) -> io::Result<()> {
+fn take_lines<R: AllocGlobal + Print, B: BufRead + Drop>(
+    rt: &R,
+    reader: B,
+) -> Result<(), DeskFailure> {
     let alloc = rt.alloc();
     let mut session = Session::new(alloc);
     for line in reader.lines(alloc) {

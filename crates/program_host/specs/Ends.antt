@@ -1,6 +1,6 @@
 -- How a program ends: what it prints of a failure, and its exit status.
 use Rattle.std.specs.Prelude.{◌≡◌, ◌⊎◌, ℕ, List, [], ◌∷◌, ◌++◌, codes, string_bytes, Option, Some}
-use Rattle.std.specs.Prelude.{None, Result, Ok, Err}
+use Rattle.std.specs.Prelude.{None, Result, Ok, Err, OnOk, IfErr}
 use Rattle.program_host.specs.Deeds.{Adds, Complains, Deed}
 use Rattle.program_host.specs.declared.words.UsageError.{UsageError}
 use Rattle.program_host.specs.declared.words.UsageError.TheVariants as uses
@@ -9,6 +9,11 @@ use Rattle.program_host.specs.declared.words.UsageError.TheVariants as uses
 abbrev pub use_complaints : UsageError → List ℕ → List Deed
 use_complaints uses.Memory note = []
 use_complaints (uses.Usage text) note = Complains (string_bytes text) ∷ Complains note ∷ []
+
+-- this text says what is wrong with the words, unless memory was refused
+abbrev pub TellsUse : List ℕ → UsageError → Type 0
+TellsUse text uses.Memory = Unit {0}
+TellsUse text (uses.Usage told) = string_bytes told ≡ text
 
 -- what is wrong with the words was printed, and a note
 pub record IsToldUse (deeds_old deeds_new : Option (List Deed)) : Type 0 where
@@ -58,3 +63,18 @@ IsToldAs text unsaved is_memory is_usage (Err failure) (Err reported) old new =
 abbrev pub outcome_of : {F : Type 0} → (F → ℕ) → Result (Unit {0}) F → ℕ
 outcome_of status (Ok done) = 0
 outcome_of status (Err failure) = status failure
+
+-- a program did what the words of its command line ask for, or failed with or without them, and how
+-- it ended was told
+pub record IsEnd {F : Type 0} (text : F → List ℕ) (unsaved : F → Option (List ℕ))
+    (is_memory is_usage : F → Type 0) (Typed : List (List ℕ) → Type 0)
+    (Unbegun : Option (List Deed) → Option (List Deed) → F → Type 0)
+    (Whole : List (List ℕ) → Option (List Deed) → Option (List Deed) → Type 0)
+    (Failed : List (List ℕ) → Option (List Deed) → Option (List Deed) → F → Type 0)
+    (old new : Option (List Deed)) (reported : Result (Unit {0}) F) : Type 0 where
+  pub ended : Result (Unit {0}) F
+  pub between : Option (List Deed)
+  pub whole : OnOk ended ((words : List (List ℕ)) × Typed words × Whole words old between)
+  pub failed : IfErr ended (λ failure. Unbegun old between failure
+      ⊎ ((words : List (List ℕ)) × Typed words × Failed words old between failure))
+  pub told : IsToldAs text unsaved is_memory is_usage ended reported between new

@@ -3,6 +3,7 @@ ghost use Rattle.std.specs.Prelude.{◌≡◌, IfOk, IfErr, IfSome, OnOk, IsSome
 ghost use Rattle.std.specs.Prelude.{false, true};
 ghost use Rattle.clap.specs.Words.{app_of, first_of, found_of, rows_of, rule_of};
 ghost use Rattle.cp_core.specs.Sizes.{SystemSizes};
+ghost use Rattle.program_host.specs.Ends.{TellsUse};
 ghost use Rattle.program_host.specs.Words.{HasNoFault, is_taken, rows_named};
 ghost use Rattle.vm370.specs.Options.{IsNamed, IsSized, command_of, directory_rule, frames_rule};
 ghost use Rattle.vm370.specs.Options.{gives_paths, number_or, slots_rule};
@@ -20,10 +21,10 @@ const FRAMES: u32 = 64;
 /// How many slots for pages it has where the words name no number.
 const SLOTS: u32 = 256;
 /// What is reported of frames or slots that are too many or no numbers.
-pub(crate) const WRONG_SIZES: &str =
+pub const WRONG_SIZES: &str =
     "there are at most 4096 frames and 65536 slots, each a decimal number\n";
 /// What is reported where a path is missing.
-pub(crate) const NO_PATH: &str = "a path is missing\n";
+pub const NO_PATH: &str = "a path is missing\n";
 /// The most digits of a number of frames or slots.
 const MOST_DIGITS: usize = 7;
 
@@ -83,6 +84,10 @@ pub fn options_of<'a>(alloc: Global, matches: &ArgMatches<'a>) -> Result<Options
     ensures err { (sizes : SystemSizes) → gives_paths (rows_of (found_of matches.now)) ≡ true →
         IsSized (rows_of (found_of matches.now)) sizes →
         IfErr result (λ error. error ≡ UsageError.Memory) }
+    ensures sizes { ((sizes : SystemSizes) → IsSized (rows_of (found_of matches.now)) sizes → ⊥)
+        → IfErr result (TellsUse WRONG_SIZES.now) }
+    ensures path { (sizes : SystemSizes) → IsSized (rows_of (found_of matches.now)) sizes
+        → IfErr result (TellsUse NO_PATH.now) }
 {
     let Some(sizes) = sizes_in(matches) else {
         return Err(usage(String::from_str(alloc, WRONG_SIZES).ok()));

@@ -2,6 +2,7 @@
 ghost use Rattle.std.specs.Prelude.{◌≡◌, IfErr, IfOk, OnOk, map, true};
 ghost use Rattle.clap.specs.Words.{app_of, found_of, rows_of};
 ghost use Rattle.cp_core.specs.Sizes.{SystemSizes};
+ghost use Rattle.program_host.specs.Ends.{TellsUse};
 ghost use Rattle.program_host.specs.Words.{HasNoFault, is_taken, rows_named};
 ghost use Rattle.vm370.specs.Options.{IsSized};
 ghost use Rattle.vm370.specs.FollowOptions.{IsNamed, command_of, gives_directory};
@@ -65,6 +66,10 @@ fn options_in<'a>(
     ensures err { (sizes : SystemSizes) → gives_directory (rows_of (found_of matches.now)) ≡ true →
         IsSized (rows_of (found_of matches.now)) sizes →
         IfErr result (λ error. error ≡ UsageError.Memory) }
+    ensures sizes { ((sizes : SystemSizes) → IsSized (rows_of (found_of matches.now)) sizes → ⊥)
+        → IfErr result (TellsUse WRONG_SIZES.now) }
+    ensures path { (sizes : SystemSizes) → IsSized (rows_of (found_of matches.now)) sizes
+        → IfErr result (TellsUse NO_PATH.now) }
 {
     let Some(sizes) = sizes_in(matches) else {
         return Err(usage(String::from_str(alloc, WRONG_SIZES).ok()));

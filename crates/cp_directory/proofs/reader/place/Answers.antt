@@ -1,7 +1,7 @@
 use Rattle.cp_directory.proofs.reader.place.Goals as goal
 
-pub returns-in-User : goal.returns-in-User
-returns-in-User c = rw c.in-User.is (c.place_user.ensures c.args.line)
+pub returns-in-User-clause-places : goal.returns-in-User-clause-places
+returns-in-User-clause-places c = rw c.in-User.is (c.place_user.ensures.places c.args.line)
 
-pub returns-in-Device : goal.returns-in-Device
-returns-in-Device c = rw c.in-Device.is (c.place_device.ensures c.args.line)
+pub returns-in-Device-clause-places : goal.returns-in-Device-clause-places
+returns-in-Device-clause-places c = rw c.in-Device.is (c.place_device.ensures.places c.args.line)
