@@ -47,6 +47,7 @@ from tests.installation import (
     strays,
     watchdog,
 )
+from tests.installation.town import Town
 from tests.lib import desk
 from tests.lib.counting import Counts
 from tests.lib.files import read, write
@@ -1388,7 +1389,9 @@ def try_over_programs(repository: str, folder: str) -> None:
     operators.try_operators(check, make_site(command, f"{folder}/operators"))
     operators.try_commands(check, make_site(command, f"{folder}/commands"))
     states.try_over_program(check, command, program, f"{folder}/states")
+    operators.try_endless(check, Town(f"{folder}/endless", 7, command=command))
     strangers.try_floods(check, make_site(command, f"{folder}/floods"))
+    strangers.try_crowd(check, Town(f"{folder}/crowd", strangers.CROWD, command=command))
 
     def run(name: str, *words: str, **given: object) -> Done:
         return Done(repository, name, *words, **given)

@@ -5,6 +5,7 @@ from collections.abc import Callable
 import asyncio
 import glob
 import os
+import re
 import subprocess
 import time
 
@@ -12,6 +13,7 @@ from tests.installation.operators import operator
 from tests.installation.states import shown, stored, value_in
 from tests.lib.files import names_in, read, write
 from tests.lib.images import blank_image
+from tests.lib.places import TOP
 from tests.lib.sites import Site, make_site, on, run, until_so
 
 DAY = 24 * 3600
@@ -82,6 +84,39 @@ def try_backup(check: Callable, site: Site, folder: str) -> None:
         check("it is suspended", other.stop() == 0, *other.findings)
 
 
+def restoring() -> str:
+    """The command of docs/OPERATING.md that puts all of a backup back where it was."""
+    return re.search(r"(?m)^ +(while read .*)$", read(f"{TOP}/docs/OPERATING.md").decode())[1]
+
+
+def try_put_back(check: Callable, site: Site) -> None:
+    """A backup is put back in its place by the command of the document, when what is left there was moved away."""
+    volume = f"{site.folder}/volume"
+    write(volume, blank_image("V1", 1))
+    site.paths.append(volume)
+    write(f"{site.record}.rules", "quota 99\n")
+    site.online("--operate", f"{site.folder}/operator")
+    run(stored(site, 7))
+    # a state is in the backup too
+    check("it is suspended", site.stop() == 0, *site.findings)
+    site.online("--operate", f"{site.folder}/operator")
+    path = f"{site.folder}/monday"
+    check("a backup is made", operator(site, "backup", path).returncode == 0, *site.findings)
+    run(stored(site, 8))
+    check("it is suspended", site.stop() == 0, *site.findings)
+    away = f"{site.folder}/away"
+    os.makedirs(away)
+    for old in (*glob.glob(f"{site.record}*"), *site.paths):
+        os.rename(old, f"{away}/{os.path.basename(old)}")
+    words = ["sh", "-c", restoring().replace("COPY", os.path.basename(path))]
+    done = subprocess.run(words, cwd=site.folder, capture_output=True, text=True)
+    check("it is put back", done.returncode == 0, done.stderr)
+    check("with its rules", os.path.exists(f"{site.record}.rules"), *names_in(site.folder))
+    site.online()
+    check("it goes on from there", value_in(run(shown(site))) == 7, *site.findings)
+    check("it is suspended", site.stop() == 0, *site.findings)
+
+
 def try_backup_after_end(check: Callable, site: Site, folder: str) -> None:
     """A backup of a session that goes on from another one has its machines; one that is not done when the session stops is none."""
     volume = f"{site.folder}/volume"
@@ -137,6 +172,23 @@ def try_changed_meanwhile(check: Callable, site: Site) -> None:
     check("a backup with a changed volume", holds, done.stdout)
     check("leaves nothing", "backup" not in names_in(site.folder))
     check("it is suspended", site.stop() == 0)
+
+
+# what a service with PrivateTmp sees of its mounts
+MOUNTS = """22 1 254:0 / / rw - ext4 /dev/vda rw
+31 22 254:0 /tmp/systemd-private-8fcd-installation.service-yAah5X/tmp /tmp rw - ext4 /dev/vda rw
+32 22 254:0 /var/tmp/systemd-private-8fcd-installation.service-Zq/tmp /var/tmp rw - ext4 /dev/vda rw
+"""
+FOLDERS = {"/tmp/monday": True, "/var/tmp/monday": True, "/tmpx/monday": False, "/var/lib/monday": False}  # fmt: skip
+
+
+def try_private(check: Callable) -> None:
+    """Which folders only the service sees, so that nobody would find a backup there."""
+    from gathjumli.host import is_private
+
+    for folder, wanted in FOLDERS.items():
+        check(f"{folder} of a service", is_private(folder, MOUNTS) == wanted)
+    check("of none", not is_private("/tmp/monday", MOUNTS.splitlines()[0]))
 
 
 # --- what is removed ---
@@ -244,10 +296,12 @@ async def decks_removed(check: Callable, folder: str) -> None:
 def try_keeping(check: Callable, command: str, folder: str) -> None:
     """All that is tried in seconds, over a stand-in for the program."""
     os.makedirs(folder)
+    try_private(check)
     run(decks_removed(check, f"{folder}/decks"))
     try_keep(check, make_site(command, f"{folder}/keep"))
     try_backup(check, make_site(command, f"{folder}/backup"), f"{folder}/restored")
     after = make_site(command, f"{folder}/after")
     try_backup_after_end(check, after, f"{folder}/restored after")
+    try_put_back(check, make_site(command, f"{folder}/put back"))
     try_broken_off(check, make_site(command, f"{folder}/broken"))
     try_changed_meanwhile(check, make_site(command, f"{folder}/changed"))

@@ -34,16 +34,21 @@ from tests.lib.files import read, write
 from tests.lib.images import blank_image
 from tests.lib.parts import do_parts, parts_of
 from tests.lib.places import PROGRAM
-from tests.lib.sites import BANNER, Person, person, processor_ticks, replayed, sizes_of
+from tests.lib.sites import (
+    BANNER,
+    Person,
+    person,
+    printing_for_ever,
+    processor_ticks,
+    replayed,
+    sizes_of,
+)
 
 if TYPE_CHECKING:
     from tests.lib.desk import Account, Place
 
 # adds one to register 1 for ever
 COMPUTES = "STORE 100 4111000147F00100"
-# starts a program at the console, waits until that is done, and so on
-PRINTS_FOR_EVER = ["STORE 48 00000800", "STORE 800 0900084020000078", "STORE 100 9C0000099D0000094770010447F00100",
-                   *(f"STORE {0x840 + 16 * number:X} {'C1' * 16}" for number in range(8)), "BEGIN 100"]  # fmt: skip
 # the time of the lines that follow, as one who appears back sees it
 TIME = re.compile(r"-- [0-9: -]{16} UTC")
 
@@ -630,7 +635,7 @@ async def mute(town: object) -> str:
 async def mute_guest(town: object) -> str:
     """One whose guest prints without end, and who does not read: he is closed, and his machine goes on."""
     one = await town.on("U03")
-    one.type("#CP SYSTEM RESET", *PRINTS_FOR_EVER)
+    one.type("#CP SYSTEM RESET", *printing_for_ever("009"))
     await one.until("STORED")
     one.writer.transport.pause_reading()
     is_reported = await asyncio.get_running_loop().run_in_executor(
@@ -755,7 +760,7 @@ def part_endless(folder: str, options: object) -> None:
             one = await town.on("U02")
             logons += one.lines[-1] == "LOGON OK"
             if one.lines[-1] == "LOGON OK":
-                one.type("#CP SYSTEM RESET", *PRINTS_FOR_EVER)
+                one.type("#CP SYSTEM RESET", *printing_for_ever("009"))
                 await one.until("STORED")
             # nobody reads what it prints
             one.go()

@@ -10,10 +10,22 @@ import re
 import shutil
 import subprocess
 import termios
+import time
 
+from tests.installation.strangers import bound_of_line, show_figures
+from tests.installation.town import Town
 from tests.lib.files import names_in, read, write
 from tests.lib.places import TOP
-from tests.lib.sites import PATIENCE, logged_on, make_site, on, person, run, until_so
+from tests.lib.sites import (
+    PATIENCE,
+    logged_on,
+    make_site,
+    on,
+    person,
+    printing_for_ever,
+    run,
+    until_so,
+)
 
 
 def operator(site: object, *words: object, given: object = None) -> object:
@@ -215,6 +227,46 @@ def try_limits(check: Callable, site: object) -> None:
     )
 
 
+def try_endless(check: Callable, town: Town) -> None:
+    """Next to six who type one prints for ever: he is named within ten seconds, and nobody else is stopped or logged off."""
+
+    async def types(user: str, is_over: asyncio.Event) -> list[str]:
+        one = await town.on(user)
+        while not is_over.is_set():
+            one.type("DISPLAY G1")
+            await one.until("GPR 1 = 00000000")
+            await asyncio.sleep(0.1)
+        one.go()
+        return one.lines
+
+    async def tried() -> tuple[float, list[list[str]]]:
+        is_over = asyncio.Event()
+        others = [asyncio.create_task(types(user, is_over)) for user in town.users[1:]]
+        one = await town.on(town.users[0])
+        one.type(*printing_for_ever("00E"))
+        begun = time.monotonic()
+        while not (await one.line()).startswith("YOUR MACHINE IS STOPPED"):
+            pass
+        took = time.monotonic() - begun
+        # he goes on
+        one.type("BEGIN 100")
+        await one.until("LOGOFF OK")
+        is_over.set()
+        return took, await asyncio.gather(*others)
+
+    town.online("--quota", "1", "--operate", f"{town.folder}/operator")
+    took, seen = run(tried())
+    show_figures("one prints for ever, and is named", f"after {took:.1f} s")
+    check("who prints for ever is stopped", took < 100 * bound_of_line(), f"{took:.1f} s")
+    told = town.await_message(f"{town.users[0]} is stopped, and his files are closed: 1 MB")
+    check("the operator knows who it was", told, *town.findings)
+    on = operator(town, "users").stdout
+    check("nobody else is logged off", f"{len(town.users) - 1} on\n" in on, on)
+    lost = [lines for lines in seen if any(line.startswith("YOU") for line in lines)]
+    check("or stopped", not lost, *lost)
+    check("it is suspended", town.stop() == 0, *town.findings)
+
+
 class SomeMachines:
     """An engine whose program has memory as users' machines print, and its installation."""
 
@@ -364,26 +416,27 @@ def try_commands(check: Callable, site: object) -> None:
         await alice.until("SENT")
         findings = site.await_message("OPER: MSG FROM ALICE: Help me")
         check("a message to the operator", findings, *site.findings)
-        commands = ["message BOB For you", "message For all", "force BOB", "force BOB", "message BOB x", "force NOBODY",
-                    "logmsg Closed on Sunday", "end at 03:00", "end cancel", "end at 24:00", "force OPER"]  # fmt: skip
+        commands = ["message BOB For you", "message bob For you too", "message For all", "force bob", "force BOB", "message BOB x",
+                    "force NOBODY", "force", "logmsg Closed on Sunday", "end at 03:00", "end cancel", "end at 24:00", "force OPER"]  # fmt: skip
         answers = [operator(site, *words.split()).returncode for words in commands]
         check(
             "commands of an operator",
-            answers == [0, 0, 0, 1, 1, 1, 0, 0, 0, 1, 1],
+            answers == [0, 0, 0, 0, 1, 1, 1, 1, 0, 0, 0, 1, 1],
             *map(str, answers),
         )
         seen = await bob.rest()
         wanted = [
             "OPERATOR: For you",
+            "OPERATOR: For you too",
             "OPERATOR: For all",
             "YOU ARE LOGGED OFF: BY THE OPERATOR",
             "LOGOFF OK",
         ]
-        check("are seen by who they are for", seen[-4:] == wanted, *seen)
+        check("are seen by who they are for", seen[-5:] == wanted, *seen)
         await alice.until("OPERATOR: For all")
         told = operator(site, "message", "NOBODY", "is", "here").stdout
         check("an operator hears how many see a message", "shown at 1 terminal\n" in told, told)
-        check("and by nobody else", "OPERATOR: For you" not in alice.lines, *alice.lines)
+        check("and by nobody else", not any("or you" in line for line in alice.lines), *alice.lines)
         alice.go()
         back, bob = await on(site), await on(site, "BOB", "BUILDER")
         await back.until("SENT")

@@ -85,13 +85,12 @@ def try_reload(check: Callable, site: Site) -> None:
     write(f"{site.record}.rules", "# at night\nlock BOB\nlock BEN\nquota 9\n")
     os.rename(journal, f"{journal}.2")
     site.process.send_signal(signal.SIGHUP)
-    check("a SIGHUP does so", site.await_message("are read again"), *site.findings)
     wanted = f"{site.record}.rules locks BEN, who is no user"
-    check("a lock of nobody is told", wanted in site.since_start(), *site.findings)
+    check("a lock of nobody is told", site.await_message(wanted), *site.findings)
     check("a locked user", answer(site, "BUILDER", "BOB") == REFUSED)
     told = operator(site, "users").stdout
     check("the operator sees who is locked", "BOB is locked\n" in told, told)
-    check("the journal after a SIGHUP", os.path.exists(journal))
+    check("a SIGHUP does so", b"are read again" in read(journal), read(journal))
     write(directory, DIRECTORY.replace("USER BOB", "USER BEN"))
     write(f"{site.record}.rules", "quota many\n")
     done = operator(site, "reload")
@@ -102,6 +101,7 @@ def try_reload(check: Callable, site: Site) -> None:
     )
     holds = done.returncode == 1 and all(text in done.stdout for text in wanted)
     check("what cannot be read stays", holds, done.stdout, done.stderr)
+    check("the journal says so", site.await_message(wanted[2]), site.since_start())
     check("as does the lock", answer(site, "BUILDER", "BOB") == REFUSED)
     check("and his wrong passwords are wrong", answer(site, "WONDER", "BOB") == REFUSED)
     write(directory, DIRECTORY)

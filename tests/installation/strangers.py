@@ -12,6 +12,7 @@ import subprocess
 import sys
 import time
 
+from tests.installation.town import Town
 from tests.lib.files import write
 from tests.lib.host import free_port
 from tests.lib.sites import Person, answered, make_site, on, person, run
@@ -34,6 +35,12 @@ def bound_of_line() -> float:
     return 0.1 if os.getloadavg()[0] < os.cpu_count() else 1.0
 
 
+def show_figures(what: str, findings: str) -> None:
+    """Prints what was measured, if that is asked for."""
+    if os.environ.get("PEOPLE_FIGURES"):
+        print(f"{what}: {findings} (load {os.getloadavg()[0]:.1f})")
+
+
 def try_floods(check: Callable, site: object) -> None:
     """One stranger, and a hundred, send what is no LOGON as fast as they can: a line of somebody who is on takes as long as before."""
 
@@ -52,8 +59,7 @@ def try_floods(check: Callable, site: object) -> None:
         for count in (1, 100):
             last, most, sent, came = run(tried(count, text))
             findings = f"{1000 * last:.0f} ms, at most {1000 * most:.0f} ms; {sent} bytes, {came} connections"
-            if os.environ.get("PEOPLE_FIGURES"):
-                print(f"{count} send {what}: {findings}")
+            show_figures(f"{count} send {what}", findings)
             check(f"{count} send {what}", last < bound_of_line(), findings)
     check("it is suspended", site.stop() == 0, *site.findings)
     holds = "closed: too much that is no LOGON" in site.since_start()
@@ -78,6 +84,48 @@ def try_noise(check: Callable, site: object) -> None:
     check("a noisy stranger is closed", lines[-1] == "THAT IS NO LOGON", *lines[-3:])
     check("and somebody who is on is not", count == 100, f"{count}")
     check("it is suspended", site.stop() == 0)
+
+
+# people of one address who log on at once, and one at whom somebody guesses
+CROWD = 31
+# a guess at the first
+GUESS = "LOGON U00 GUESS"
+
+
+def try_crowd(check: Callable, town: Town) -> None:
+    """While somebody guesses at a name again and again, thirty people of his address log on at once."""
+
+    async def guess() -> None:
+        while True:
+            one = await person(town.where)
+            one.type(*[GUESS] * 3)
+            await one.rest()
+
+    async def took(user: str) -> float:
+        begun = time.monotonic()
+        one = await town.on(user)
+        seconds = time.monotonic() - begun
+        one.go()
+        return seconds
+
+    async def tried() -> list[float]:
+        guessers = [asyncio.create_task(guess()) for _ in range(4)]
+        # until they wait for each other
+        await asyncio.sleep(2)
+        found = await asyncio.gather(*map(took, town.users[1:]))
+        for guesser in guessers:
+            guesser.cancel()
+        return sorted(found)
+
+    town.online()
+    found = run(tried())
+    middle = found[len(found) // 2]
+    findings = f"median {middle:.2f} s, at most {found[-1]:.2f} s"
+    show_figures(f"{len(found)} people log on at once", findings)
+    check("a crowd logs on while somebody guesses", middle < 10 * bound_of_line(), findings)
+    check("it is suspended", town.stop() == 0, *town.findings)
+    told = "wrong passwords for U00" in town.since_start()
+    check("the journal tells of guesses", told, town.since_start()[-1000:])
 
 
 def make_certificate(folder: str) -> list[str]:
@@ -142,8 +190,7 @@ def try_silent(check: Callable, site: object) -> None:
     if "--certificate" in site.process.args:
         answer = run(encrypted_logon(port))
         check("somebody logs on", answer == "LOGON OK", answer)
-    if os.environ.get("PEOPLE_FIGURES"):
-        print(f"{SILENT} silent: status {findings}")
+    show_figures(f"{SILENT} are silent, and status takes", findings)
     check("it is suspended", subprocess.run([*operate, "suspend"]).returncode == 0)
     check("it ends well", site.ended() == 0)
     for item in silent:
@@ -159,3 +206,4 @@ def try_strangers(check: Callable, command: str, folder: str) -> None:
     try_noise(check, make_site(command, f"{folder}/noise"))
     try_floods(check, make_site(command, f"{folder}/floods"))
     try_silent(check, make_site(command, f"{folder}/silent"))
+    try_crowd(check, Town(f"{folder}/crowd", CROWD, command=command))

@@ -135,11 +135,15 @@ def try_hung_desk(check: Callable, site: Site, hung: int) -> None:
 
 
 def try_manager(check: Callable, site: Site) -> None:
-    """The manager hears when people may log on, that the program answers, and when the installation stops."""
+    """The manager hears when people may log on, that the program answers, that files are read again, and when the installation stops."""
     with manager(site.folder) as found:
-        site.online("--hung-after", "0")
+        site.online("--hung-after", "0", "--operate", f"{site.folder}/operator")
         texts = told(found, "READY=1")
         check("it is ready once it is online", texts[-1:] == ["READY=1"], *texts)
+        site.process.send_signal(signal.SIGHUP)
+        texts = [text for text in told(found, "READY=1") if text != "WATCHDOG=1"]
+        holds = len(texts) == 2 and re.fullmatch(r"RELOADING=1\nMONOTONIC_USEC=\d+", texts[0])
+        check("it says that it reads files again, and when it is ready", holds, *texts)
         check("it lives", told(found, "WATCHDOG=1")[-1:] == ["WATCHDOG=1"])
         with open(f"/proc/{site.program()}/environ") as file:
             check("no other process is to tell it", "NOTIFY_SOCKET" not in file.read())
@@ -163,6 +167,8 @@ def try_manager(check: Callable, site: Site) -> None:
         texts = told(found, "STOPPING=1")
         check("it says that it stops", texts[-1:] == ["STOPPING=1"], *texts)
         check("it is suspended", site.ended() == 0, *site.findings)
+        wanted = "the installation is suspended by a SIGTERM"
+        check("and says by what", wanted in site.since_start(), site.since_start())
 
 
 def try_readable_key(check: Callable, site: Site) -> None:

@@ -3,7 +3,7 @@
 [--unproved] [--users N] [--days N] [--minutes N] [--lines N] [--keep N] [--seed N]. Each day everybody types, as many lines as --lines
 says or else as the minutes allow; some print, get decks, leave and come back. Each week the session ends, and each fourth week all is
 killed in its midst. What is bounded has to stay so, each start to be short, and recordings to replay. It prints figures, and last 'N
-passed, M failed'. A SIGTERM ends it after the week. Not in the gate."""
+passed, M failed'. A SIGTERM ends it after the week. The gate has seven weeks of three users."""
 from __future__ import annotations
 
 from typing import NamedTuple
@@ -128,7 +128,7 @@ class Worker:
         text = self.text()
         if self.count % 10 == 0:
             self.type(f"MSG {self.neighbour} {text}")
-            await self.one.until("SENT")
+            await self.one.until("SENT", "USER NOT LOGGED ON")
         elif self.count % 20 == 5:
             self.type(*COUNTING)
             await self.one.until(STOPPED)
@@ -237,8 +237,7 @@ class Year:
             lines = self.options["lines"]
             work = [worker.work(day, lines, until) for worker in self.workers]
             await asyncio.gather(self.reload(), *work)
-            for deck in self.decks():
-                self.read_in.setdefault(deck, day)
+            self.note_decks(day)
             if day == WEEK * week + WEEK // 2 and week % 4 == 3:
                 self.town.kill(is_all=True)
                 self.start()
@@ -270,6 +269,11 @@ class Year:
     def decks(self) -> list[str]:
         """The decks that were read in and are still there."""
         return glob.glob(f"{self.folder}/town/decks/*/done/*")
+
+    def note_decks(self, day: int) -> None:
+        """Notes on which day those were first seen; on a short day some are read in after its end."""
+        for deck in self.decks():
+            self.read_in.setdefault(deck, day)
 
     def ended(self) -> list[str]:
         return [name for name in names_in(f"{self.folder}/town") if ENDED.fullmatch(name)]
@@ -304,6 +308,7 @@ class Year:
         # the name of a session has the day when it began, a week before its end
         begun = [ENDED.fullmatch(name)[1] for name in self.ended()]
         check("ended sessions", not begun or begun[0] >= self.clock.date(day - keep - 1 - WEEK), *begun)  # fmt: skip
+        self.note_decks(day)
         decks = [self.read_in[deck] for deck in self.decks()]
         check("decks", min(decks, default=day) >= day - keep - 1, f"{min(decks, default=day)}")
         printed = len(glob.glob(f"{place}/prints/*/PRT*"))
@@ -349,7 +354,11 @@ class Year:
         worst = max(self.starts)
         computed = f"{min(self.computed):.1f} to {max(self.computed):.1f} s computed"
         notify(f"{len(self.starts)} starts: {min(self.starts):.1f} to {worst:.1f} s, {computed}")
-        check("each start is short", worst < SECONDS_TO_START, f"{worst:.1f} s")
+        check("each start computes little", max(self.computed) < SECONDS_TO_START, computed)
+        # a host that is busy with others makes everybody wait
+        is_busy = os.getloadavg()[0] >= os.cpu_count()
+        holds = worst < SECONDS_TO_START * (10 if is_busy else 1)
+        check("each start is short", holds, f"{worst:.1f} s")
 
 
 def missing(worker: Worker, shown: dict[str, list[str]]) -> list[list[str]]:

@@ -278,3 +278,10 @@ def processor_ticks(site: object) -> object:
 # a guest that prints a line: SIO, TIO until that is done, and a disabled wait
 PRINTS = ("STORE 48 00000800", "STORE 800 0900084020000005", "STORE 840 C8C5D3D3D6", "STORE 200 0002000000000000",
           "STORE 100 9C00000E9D00000E4770010482000200", "BEGIN 100")  # fmt: skip
+
+
+def printing_for_ever(device: str) -> list[str]:
+    """A guest that has a console or printer print lines for ever: it starts a program there, waits until that is done, and so on."""
+    lines = [f"STORE {0x840 + 16 * number:X} {'C1' * 16}" for number in range(8)]
+    program = f"STORE 100 9C000{device}9D000{device}4770010447F00100"
+    return ["STORE 48 00000800", "STORE 800 0900084020000078", program, *lines, "BEGIN 100"]

@@ -7,6 +7,7 @@ from collections.abc import Callable
 from typing import Any, BinaryIO, NamedTuple
 import asyncio
 import contextlib
+import errno
 import hashlib
 import os
 import shutil
@@ -105,7 +106,9 @@ class Backup:
                 shutil.rmtree(made, ignore_errors=True)
                 raise
         except (OSError, Failure) as reason:
-            reply(f"no backup is made: {reason_text(reason)}")
+            is_closed = getattr(reason, "errno", None) == errno.EROFS
+            hint = ", or the service's unit does not name the folder (ReadWritePaths)" * is_closed
+            reply(f"no backup is made: {reason_text(reason)}{hint}")
             end(False)
             return
         finally:

@@ -39,6 +39,8 @@ LINES_SECONDS = 0.01
 # how often it is asked what users hold by files that they have not closed, and about how many bytes an entry takes
 OPEN_FILES_SECONDS = 1.0
 ENTRY_BYTES = 144
+# about how long this command takes to do a recorded line again, without what the program takes
+ENTRY_SECONDS = 0.00003
 # how often others get their turn after lines were done: whoever has typed more is known then
 TURNS_OF_LOOP = 4
 LACKS = re.compile("= ([A-Z0-9]+) FRAMES")
@@ -94,6 +96,8 @@ class Engine:
         printouts.note = lambda name: self.note(PRINTED + name.encode() + b"\n")
         # what was done since the start of the command
         self.parts = self.turns = 0
+        # lines and other entries of the recording, also those that were done again
+        self.entries = 0
         self.waits = Waits()
 
     def begun(self) -> Any:
@@ -104,9 +108,13 @@ class Engine:
         """The processor time that the program took."""
         return processor_seconds(self.program.process.pid)
 
+    def seconds_to_repeat(self) -> float:
+        """About what a start takes that does again what was done until now: the program's time, and this command's for each entry."""
+        return self.seconds() + ENTRY_SECONDS * self.entries
+
     def seconds_to_start(self) -> float:
-        """About what a start takes: the reading of the last state, and what was computed after it."""
-        return self.states.reading + self.seconds() - self.states.at
+        """About what a start takes: the reading of the last state, and what was done after it."""
+        return self.states.reading + self.seconds_to_repeat() - self.states.at
 
     def memory(self) -> Any:
         """The bytes of memory that the program has."""
@@ -139,7 +147,7 @@ class Engine:
                 self.woken.clear()
                 await self.woken.wait()
             await self.go_on()
-            if self.states.is_due(self.seconds()) and not self.is_stopping:
+            if self.states.is_due(self.seconds_to_repeat()) and not self.is_stopping:
                 await self.loop.run_in_executor(self.thread, self.save_state, self.notes())
         for _, done in self.waiting:
             done.cancel()
@@ -149,6 +157,7 @@ class Engine:
         results, given = await self.loop.run_in_executor(self.thread, self.step)
         for part, result in results:
             self.parts += 1
+            self.entries += max(1, len(part.typed))
             self.take(part, result)
         for done in given:
             if not done.done():
@@ -268,14 +277,14 @@ class Engine:
 
     def save_state(self, notes: dict[str, Any]) -> None:
         """Saves the state of all that was done and shown. Everybody waits meanwhile."""
-        if not self.is_whole or not self.states.can_save(self.seconds()):
+        if not self.is_whole or not self.states.can_save(self.seconds_to_repeat()):
             return
         self.is_saving = True
         try:
             if self.marks:
                 self.recording.add(self.take_marks())
             is_saved = self.states.save(self.program, notes)
-            self.states.tried(self.seconds(), is_saved)
+            self.states.tried(self.seconds_to_repeat(), is_saved)
         except Died:
             if not self.is_stopping:
                 self.restart()
@@ -391,13 +400,13 @@ class Engine:
                 continue
             finally:
                 self.is_saving = False
-            self.states.goes_on(self.seconds(), self.seconds() - before, state)
+            self.states.goes_on(self.seconds_to_repeat(), self.seconds() - before, state)
             return mark, state
         if self.recording.beginning:
             raise self.states.lost_beginning()
         # it has read the volumes when it has answered
         self.checked(self.program.do, b"")
-        self.states.goes_on(self.seconds(), 0.0, None)
+        self.states.goes_on(self.seconds_to_repeat(), 0.0, None)
         return None, None
 
     def do_recording(

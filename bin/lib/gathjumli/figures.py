@@ -118,7 +118,7 @@ def figures(installation: Any) -> dict[str, Any]:
         "state": {
             "bytes": last.size if last else 0,
             "waited": round(last.waited, 3) if last else 0.0,
-            "age": round(max(0.0, engine.seconds() - engine.states.at), 3),
+            "age": round(max(0.0, engine.seconds_to_repeat() - engine.states.at), 3),
         },
         "start": round(engine.seconds_to_start(), 1),
         "printouts": {

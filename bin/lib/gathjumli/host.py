@@ -5,6 +5,8 @@ from typing import Any
 import os
 
 MEGABYTE = 1 << 20
+# in the path of what systemd mounts for one service
+PRIVATE = "/systemd-private-"
 
 
 def size_text(size: int) -> str:
@@ -34,3 +36,9 @@ def processor_seconds(process: Any) -> Any:
 def usual_memory() -> Any:
     """Half of the host's memory."""
     return os.sysconf("SC_PHYS_PAGES") * os.sysconf("SC_PAGE_SIZE") // 2
+
+
+def is_private(path: str, mounts: str) -> bool:
+    """Whether a path is below a folder that only this service sees, and that goes when it stops, by what /proc/self/mountinfo has."""
+    places = [words[4] for words in map(str.split, mounts.splitlines()) if PRIVATE in words[3]]
+    return any(os.path.join(path, "").startswith(os.path.join(place, "")) for place in places)

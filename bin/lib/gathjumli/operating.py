@@ -9,7 +9,7 @@ import json
 import os
 import re
 
-from gathjumli.host import MEGABYTE, memory_of, size_text
+from gathjumli.host import MEGABYTE, is_private, memory_of, size_text
 from gathjumli.backups import Backup
 from gathjumli.cli import Failure, read_file
 from gathjumli.ending import Ending, room_trouble
@@ -17,6 +17,7 @@ from gathjumli.spool_care import NotDone, SpoolCare
 from gathjumli.figures import Data, figures, metrics
 from gathjumli.frame_maps import BEING_LOOKED_FOR, FrameMap
 from gathjumli.journal import amount
+from gathjumli.reloading import ALL_READ
 
 DONE, NOT_DONE, ENDS, ENDED = range(4)
 # before all of the recording is done again
@@ -126,7 +127,7 @@ class Operator:
     def named(self, name: str) -> Any:
         user = self.engine.users.get(name.upper())
         if not user:
-            raise NotDone(f"there is no user {name}")
+            raise NotDone(f"there is no user {name}" if name else "the name of a user is missing")
         return user
 
     def on(self) -> list:
@@ -218,17 +219,17 @@ class Operator:
     def message(self, text: str, reply: Any) -> None:
         """A line for the user whose name is the first word, else for each terminal."""
         word, _, rest = text.partition(" ")
-        user = self.engine.users.get(word)
+        user = self.engine.users.get(word.upper())
         if not user or not rest:
             reply(f"shown at {amount(self.announce(text), 'terminal')}")
         elif not user.is_on:
-            raise NotDone(f"{word} is not on")
+            raise NotDone(f"{user.name} is not on")
         else:
             user.show([f"OPERATOR: {plain(rest)}"])
             reply(
-                f"{word} is at no terminal, and sees it when he comes back"
+                f"{user.name} is at no terminal, and sees it when he comes back"
                 if not user.terminal.is_there
-                else f"sent to {word}"
+                else f"sent to {user.name}"
             )
 
     def announce(self, text: str) -> int:
@@ -259,14 +260,14 @@ class Operator:
         self.installation.force(user, "by the operator")
 
     def reload(self, rest: str, reply: Any) -> Any:
-        troubles = self.installation.reload.all()
-        for text in troubles or ["journal, certificate, passwords and rules are read again"]:
-            reply(text)
+        troubles = self.installation.reload.do()
+        if reply != self.notify:
+            for text in troubles or [ALL_READ]:
+                reply(text)
         return NOT_DONE if troubles else DONE
 
     def suspend(self, rest: str, reply: Any) -> Any:
-        self.notify("the installation is suspended")
-        self.installation.stop()
+        self.installation.suspend()
         return ENDS
 
     def end(self, rest: Any, reply: Any) -> Any:
@@ -341,6 +342,8 @@ def wrong_folder(folder: str) -> str:
     """Why nothing can be copied into a folder, or nothing."""
     if not os.path.isabs(folder):
         return "backup /FOLDER: a path from the root, since this command may run elsewhere"
+    if is_private(os.path.realpath(folder), read_file("/proc/self/mountinfo").decode()):
+        return f"{folder} would be seen by this service only, and go when it stops (PrivateTmp)"
     return f"{folder} is there already" if os.path.lexists(folder) else ""
 
 
@@ -350,7 +353,7 @@ def state_text(engine: Any) -> str:
     if not last:
         return "no state is saved yet"
     waited = f", for which all waited {last.waited:.2f} s" if last.waited else ""
-    ago = engine.seconds() - engine.states.at
+    ago = engine.seconds_to_repeat() - engine.states.at
     return f"the last state has {size_text(last.size)} and is {ago:.0f} s of computing old{waited}"
 
 

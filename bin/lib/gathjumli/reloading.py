@@ -13,11 +13,19 @@ from gathjumli.recording import read_whole, without_passwords
 from gathjumli.rules import Rules, read_rules
 from gathjumli.tls import load_certificate
 
+ALL_READ = "journal, certificate, passwords and rules are read again"
+
 
 def warn_of_readers(path: str, what: str, notify: Callable[[str], None]) -> None:
     """Says it if others than its owner may read a file of secrets."""
     if os.stat(path).st_mode & 0o044:
         notify(f"{path} has {what}, and others may read it: chmod 600 {path}")
+
+
+def named_reason(reason: Exception) -> str:
+    """A line that says why a file was not read, and which."""
+    name = getattr(reason, "filename", None)
+    return f"{name}: {reason_text(reason)}" if name else reason_text(reason)
 
 
 class Reload:
@@ -38,11 +46,12 @@ class Reload:
         steps = {"journal": self.installation.journal.reopen, "certificate": self.take_certificate,
                  "passwords": self.take_passwords, "rules": self.take_rules}  # fmt: skip
         troubles = []
-        for what, step in steps.items():
-            try:
-                step()
-            except (Failure, OSError) as reason:
-                troubles.append(f"{what} not read again: {reason_text(reason)}")
+        with self.installation.options["manager"].told_of_reload():
+            for what, step in steps.items():
+                try:
+                    step()
+                except (Failure, OSError) as reason:
+                    troubles.append(f"{what} not read again: {named_reason(reason)}")
         for path in (
             self.path,
             self.installation.directory,
@@ -52,10 +61,12 @@ class Reload:
                 self.installation.store.keep_soon(path)
         return troubles
 
-    def do(self) -> None:
-        """Reads all again, and has the journal say how that ended."""
-        for text in self.all() or ["journal, certificate, passwords and rules are read again"]:
+    def do(self) -> list[str]:
+        """Reads all again, and has the journal say how that ended; what could not be read."""
+        troubles = self.all()
+        for text in troubles or [ALL_READ]:
             self.installation.notify(text)
+        return troubles
 
     def take_certificate(self) -> None:
         options = self.installation.options

@@ -5,7 +5,7 @@ sign of life is killed: that of the machines is started again, and without the d
 again. The manager is systemd, or whoever reads datagrams at NOTIFY_SOCKET (sd_notify(3))."""
 from __future__ import annotations
 
-from collections.abc import Callable
+from collections.abc import Callable, Iterator
 from typing import Any
 import contextlib
 import os
@@ -46,6 +46,17 @@ class Manager:
     def tell_online(self) -> None:
         self.is_online = True
         self.tell("READY=1")
+
+    @contextlib.contextmanager
+    def told_of_reload(self) -> Iterator[None]:
+        """Tells when a reload begins and when it ends. A reload before people may log on is part of the start, and is not told."""
+        if self.is_online:
+            self.tell(f"RELOADING=1\nMONOTONIC_USEC={time.monotonic_ns() // 1000}")
+        try:
+            yield
+        finally:
+            if self.is_online:
+                self.tell("READY=1")
 
     def tell_stopping(self) -> None:
         """A session that was never online only ends the one before, and the next one follows."""
