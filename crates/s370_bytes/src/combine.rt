@@ -2,21 +2,20 @@
 ghost use Rattle.std.specs.Prelude.{◌≡◌, ℕ, ◌+◌, ◌==◌, ◌<◌, ◌≤◌, length, slice_index, slice_range};
 ghost use Rattle.std.specs.Prelude.{take, true, false};
 ghost use Rattle.std.specs.Int.{to_be_bytes, w64};
-ghost use Rattle.s370_store.specs.Access.{IsGranted};
 ghost use Rattle.s370_store.specs.Memory.{with_stored};
 ghost use Rattle.s370_rows.specs.Arithmetic.{zero_code};
 ghost use Rattle.s370_rows.specs.State.{state_of};
-ghost use Rattle.s370_rows.specs.Rows.{MeetsRow};
+ghost use Rattle.s370_rows.specs.Reach.{MeetsBy};
 ghost use Rattle.s370_bytes.specs.declared.combine.Combine.{Combine};
 ghost use Rattle.s370_bytes.specs.Combine.{combined, combined_condition, string_combined, made_of};
-ghost use Rattle.s370_bytes.specs.Combine.{lag_of, lagged, strings_combined};
-ghost use Rattle.s370_bytes.specs.Strings.{LiesIn, number};
+ghost use Rattle.s370_bytes.specs.Combine.{lag_of, lagged};
+ghost use Rattle.s370_bytes.specs.Strings.{number};
 
-use crate::compare::{front_number, holds_eight};
-use crate::straight::StringAt;
-use s370_num::{Addr24, ConditionCode};
-use s370_rows::{Completion, Cpu, Instruction, Refusal, grant_two};
-use s370_store::{Access, Range, Storage};
+use crate::compare::front_number;
+use crate::long::set_all;
+use s370_num::ConditionCode;
+use s370_rows::{Completion, Cpu, Instruction, Reach, byte_at};
+use s370_store::{Access, Storage};
 
 /// The left halves of eight bytes.
 const ZONES: u64 = 0xF0F0_F0F0_F0F0_F0F0;
@@ -159,23 +158,24 @@ fn set_combined_condition(operation: Combine, cpu: &mut Cpu, made: &[u8])
 }
 
 /// Combines two ranges of storage from left to right and stores the result, which stays in `made`;
-/// `source` is a buffer.
+/// `other` is a buffer.
 #[inline(always)]
-fn combine_at<S: Storage>(
+fn combine_through<S: Storage, R: Reach<S>>(
     operation: Combine,
     storage: &mut S,
+    target: R::Span,
     to: u32,
+    source: R::Span,
     from: u32,
     made: &mut [u8],
-    source: &mut [u8],
+    other: &mut [u8],
 )
     requires some { 0 < length made.old }
     requires short { length made.old ≤ 256 }
-    requires same { length made.old ≡ length source.old }
-    requires target { IsGranted (length (S.memory storage.old).bytes) (S.present storage.old) to
-        (length made.old) }
-    requires source { IsGranted (length (S.memory storage.old).bytes) (S.present storage.old) from
-        (length made.old) }
+    requires same { length made.old ≡ length other.old }
+    requires inside { to + length made.old ≤ length (S.memory storage.old).bytes }
+    requires target { R.Covers storage.old to (length made.old) target }
+    requires source { R.Covers storage.old from (length made.old) source }
     ensures stored { S.memory storage.new
         ≡ with_stored (S.memory storage.old) to
         (made_of operation (S.memory storage.old).bytes to from (length made.old)) }
@@ -183,98 +183,52 @@ fn combine_at<S: Storage>(
         (length made.old) }
     ensures rest { S.Keeps storage.old storage.new }
 {
-    storage.load(to, made);
-    storage.load(from, source);
+    R::load(storage, target, to, made);
+    R::load(storage, source, from, other);
     let lag = lag_of(to, from, made.len() as u32);
-    combine_all(operation, made, source, lag as usize);
-    storage.store(to, made);
-}
-
-/// Combines two ranges, each in a block that `find_block` returned, and stores the result, which
-/// stays in `made`; `other` is a buffer.
-#[inline(always)]
-fn combine_in<S: Storage>(
-    operation: Combine,
-    storage: &mut S,
-    target: StringAt,
-    source: StringAt,
-    made: &mut [u8],
-    other: &mut [u8],
-)
-    requires some { 0 < length made.old }
-    requires same { length made.old ≡ length other.old }
-    requires short { length made.old ≤ 256 }
-    requires source { LiesIn (S.IsPlaced storage.old) (length (S.memory storage.old).bytes) source
-        (length made.old) }
-    requires target { LiesIn (S.IsPlaced storage.old) (length (S.memory storage.old).bytes) target
-        (length made.old) }
-    ensures stored { S.memory storage.new
-        ≡ with_stored (S.memory storage.old) target.start (made_of operation
-        (S.memory storage.old).bytes target.start source.start (length made.old)) }
-    ensures made { made.new ≡ made_of operation (S.memory storage.old).bytes target.start
-        source.start
-        (length made.old) }
-    ensures rest { S.Keeps storage.old storage.new }
-{
-    storage.load_in(target.block, target.start, made);
-    storage.load_in(source.block, source.start, other);
-    let lag = lag_of(target.start, source.start, made.len() as u32);
     combine_all(operation, made, other, lag as usize);
-    storage.store_in(target.block, target.start, made);
+    R::store(storage, target, to, made);
 }
 
-/// Combines two strings in blocks that `find_block` returned, through buffers, and sets the
-/// condition code unless it is a move.
+/// Combines two ranges of storage through buffers, and sets the condition code unless it is a move.
 ///
 /// A short string goes through short buffers, which take less time to make.
-pub fn combine_straight<S: Storage>(
+#[inline(never)]
+fn combine_long<S: Storage, R: Reach<S>>(
     operation: Combine,
     cpu: &mut Cpu,
     storage: &mut S,
-    target: StringAt,
-    source: StringAt,
+    target: R::Span,
+    to: u32,
+    source: R::Span,
+    from: u32,
     count: u32,
 )
     requires some { 0 < count }
     requires short { count ≤ 256 }
-    requires source { LiesIn (S.IsPlaced storage.old) (length (S.memory storage.old).bytes) source
-        count }
-    requires target { LiesIn (S.IsPlaced storage.old) (length (S.memory storage.old).bytes) target
-        count }
+    requires inside { to + count ≤ length (S.memory storage.old).bytes }
+    requires target { R.Covers storage.old to count target }
+    requires source { R.Covers storage.old from count source }
     ensures stored { S.memory storage.new
-        ≡ with_stored (S.memory storage.old) target.start
-        (made_of operation (S.memory storage.old).bytes target.start source.start count) }
+        ≡ with_stored (S.memory storage.old) to
+        (made_of operation (S.memory storage.old).bytes to from count) }
     ensures condition { cpu.new
         ≡ combined_condition operation cpu.old
-        (made_of operation (S.memory storage.old).bytes target.start source.start count) }
+        (made_of operation (S.memory storage.old).bytes to from count) }
     ensures rest { S.Keeps storage.old storage.new }
 {
     let count = count as usize;
     if count <= 16 {
         let mut bytes = [0u8; 16];
         let mut other = [0u8; 16];
-        let made = &mut bytes[..count];
-        combine_in(
-            operation,
-            storage,
-            target,
-            source,
-            made,
-            &mut other[..count],
-        );
+        let (made, other) = (&mut bytes[..count], &mut other[..count]);
+        combine_through::<S, R>(operation, storage, target, to, source, from, made, other);
         set_combined_condition(operation, cpu, made);
     } else {
         let mut bytes = [0u8; 256];
         let mut other = [0u8; 256];
-        let made = &mut bytes[..count];
-        combine_in(
-            operation,
-            storage,
-            target,
-            source,
-            made,
-            &mut other[..count],
-        );
+        let (made, other) = (&mut bytes[..count], &mut other[..count]);
+        combine_through::<S, R>(operation, storage, target, to, source, from, made, other);
         set_combined_condition(operation, cpu, made);
     }
 }
@@ -330,126 +284,41 @@ fn set_front_condition(operation: Combine, cpu: &mut Cpu, made: [u8; 8], count: 
 }
 
 /// Combines at most eight bytes, none of which is read after it was written, and sets the condition
-/// code unless it is a move; eight bytes from each address on have to be in its block.
+/// code unless it is a move; eight bytes from each address on may be loaded and stored.
 ///
 /// Eight bytes are loaded and stored, and those past `count` stay as they are.
 #[inline(always)]
-fn combine_short<S: Storage>(
+fn combine_short<S: Storage, R: Reach<S>>(
     operation: Combine,
     cpu: &mut Cpu,
     storage: &mut S,
-    target: StringAt,
-    source: StringAt,
+    target: R::Span,
+    to: u32,
+    source: R::Span,
+    from: u32,
     count: u32,
 )
     requires some { 0 < count }
     requires few { count ≤ 8 }
-    requires apart { lag_of target.start source.start count ≡ count }
-    requires source_room { source.start + 8 ≤ source.block.first + 2048 }
-    requires target_room { target.start + 8 ≤ target.block.first + 2048 }
-    requires source { LiesIn (S.IsPlaced storage.old) (length (S.memory storage.old).bytes) source
-        count }
-    requires target { LiesIn (S.IsPlaced storage.old) (length (S.memory storage.old).bytes) target
-        count }
+    requires apart { lag_of to from count ≡ count }
+    requires inside { to + count ≤ length (S.memory storage.old).bytes }
+    requires target { R.Covers storage.old to 8 target }
+    requires source { R.Covers storage.old from 8 source }
     ensures stored { S.memory storage.new
-        ≡ with_stored (S.memory storage.old) target.start
-        (made_of operation (S.memory storage.old).bytes target.start source.start count) }
+        ≡ with_stored (S.memory storage.old) to
+        (made_of operation (S.memory storage.old).bytes to from count) }
     ensures condition { cpu.new
         ≡ combined_condition operation cpu.old
-        (made_of operation (S.memory storage.old).bytes target.start source.start count) }
+        (made_of operation (S.memory storage.old).bytes to from count) }
     ensures rest { S.Keeps storage.old storage.new }
 {
     let mut made = [0u8; 8];
     let mut other = [0u8; 8];
-    storage.load_in(target.block, target.start, &mut made);
-    storage.load_in(source.block, source.start, &mut other);
+    R::load(storage, target, to, &mut made);
+    R::load(storage, source, from, &mut other);
     combine_front(operation, &mut made, &other, count as usize);
-    storage.store_in(target.block, target.start, &made);
+    R::store(storage, target, to, &made);
     set_front_condition(operation, cpu, made, count);
-}
-
-/// Combines at most eight bytes, each operand in a block that `find_block` returned, as numbers,
-/// sets the condition code unless it is a move, and returns true; else changes nothing and returns
-/// false.
-///
-/// It returns false for a longer string, one of which a byte is read after it was written, and one
-/// from which eight bytes are not in its block.
-#[inline(always)]
-pub fn combine_few<S: Storage>(
-    operation: Combine,
-    cpu: &mut Cpu,
-    storage: &mut S,
-    target: StringAt,
-    source: StringAt,
-    count: u32,
-) -> bool
-    requires some { 0 < count }
-    requires short { count ≤ 256 }
-    requires source { LiesIn (S.IsPlaced storage.old) (length (S.memory storage.old).bytes) source
-        count }
-    requires target { LiesIn (S.IsPlaced storage.old) (length (S.memory storage.old).bytes) target
-        count }
-    ensures stored { result ≡ true
-        → S.memory storage.new
-        ≡ with_stored (S.memory storage.old) target.start
-        (made_of operation (S.memory storage.old).bytes target.start source.start count) }
-    ensures condition { result ≡ true
-        → cpu.new
-        ≡ combined_condition operation cpu.old
-        (made_of operation (S.memory storage.old).bytes target.start source.start count) }
-    ensures still { result ≡ false
-        → (S.memory storage.new ≡ S.memory storage.old) × (cpu.new ≡ cpu.old) }
-    ensures rest { S.Keeps storage.old storage.new }
-{
-    if count > 8
-        || lag_of(target.start, source.start, count) != count
-        || !holds_eight(target.block, target.start)
-        || !holds_eight(source.block, source.start)
-    {
-        return false;
-    }
-    combine_short(operation, cpu, storage, target, source, count);
-    true
-}
-
-/// Does MVN, MVZ, NC, OC or XC of `count` bytes at `to` with those at `from`, as [`combine_row`].
-///
-/// # Errors
-///
-/// A `Refusal`, as [`combine_row`].
-pub fn combine_strings<S: Storage>(
-    operation: Combine,
-    cpu: &mut Cpu,
-    storage: &mut S,
-    to: Addr24,
-    from: Addr24,
-    count: u32,
-) -> Result<Completion, Refusal>
-    requires some { 0 < count }
-    requires short { count ≤ 256 }
-    ensures row { let before = state_of cpu.old (S.memory storage.old) in
-        let after = state_of cpu.new (S.memory storage.new) in
-        MeetsRow (strings_combined operation before to from count) (S.present storage.old) before
-        result after }
-    ensures rest { S.Keeps storage.old storage.new }
-{
-    let (to, from) = (to.get(), from.get());
-    let target = Range { start: to, count };
-    let source = Range { start: from, count };
-    grant_two(cpu, storage, target, Access::Store, source, Access::Fetch)?;
-    let count = count as usize;
-    let mut made = [0u8; 256];
-    let mut source = [0u8; 256];
-    combine_at(
-        operation,
-        storage,
-        to,
-        from,
-        &mut made[..count],
-        &mut source[..count],
-    );
-    set_combined_condition(operation, cpu, &made[..count]);
-    Ok(Completion::Done)
 }
 
 /// Does MVN (D1), MVZ (D3), NC (D4), OC (D6) or XC (D7): combines the first operand with the second
@@ -457,81 +326,148 @@ pub fn combine_strings<S: Storage>(
 ///
 /// # Errors
 ///
-/// A `Refusal`: the program interruption, or an absent page that has to be brought first. Nothing
-/// has changed.
-pub fn combine_row<S: Storage>(
+/// What `R` says of an operand that is refused. Nothing has changed.
+#[inline(always)]
+pub fn combine_row<S: Storage, R: Reach<S>>(
     operation: Combine,
     cpu: &mut Cpu,
     storage: &mut S,
     i: Instruction,
-) -> Result<Completion, Refusal>
+    reach: &mut R,
+) -> Result<Completion, R::Refused>
+    requires ready { R.IsReady storage.old cpu.old.psw.key reach.old }
     ensures row { let before = state_of cpu.old (S.memory storage.old) in
         let after = state_of cpu.new (S.memory storage.new) in
-        MeetsRow (string_combined operation before i) (S.present storage.old) before result after }
+        MeetsBy R.Refused R.Refuses (string_combined operation before i) (S.present storage.old)
+        before result after }
     ensures rest { S.Keeps storage.old storage.new }
+    ensures ready { R.IsReady storage.old cpu.old.psw.key reach.new }
 {
     let to = cpu.based(i.second_half);
     let from = cpu.based(i.third_half);
-    combine_strings(operation, cpu, storage, to, from, i.second_byte as u32 + 1)
+    let count = i.second_byte as u32 + 1;
+    let (target, source) = reach.both(cpu, storage, Access::Store, to, count, from, count)?;
+    let (to, from) = (to.get(), from.get());
+    if count <= 8
+        && lag_of(to, from, count) == count
+        && R::holds_eight(target, to)
+        && R::holds_eight(source, from)
+    {
+        combine_short::<S, R>(operation, cpu, storage, target, to, source, from, count);
+    } else {
+        combine_long::<S, R>(operation, cpu, storage, target, to, source, from, count);
+    }
+    Ok(Completion::Done)
 }
 
-/// Copies a range of storage as if byte by byte from left to right, through a buffer of its length.
+/// Does MVC from the byte before its target, which fills that with the byte.
 #[inline(always)]
-fn move_through<S: Storage>(storage: &mut S, to: u32, from: u32, bytes: &mut [u8])
+fn fill<S: Storage, R: Reach<S>>(
+    storage: &mut S,
+    target: R::Span,
+    to: u32,
+    source: R::Span,
+    from: u32,
+    bytes: &mut [u8],
+)
     requires some { 0 < length bytes.old }
     requires short { length bytes.old ≤ 256 }
-    requires target { IsGranted (length (S.memory storage.old).bytes) (S.present storage.old) to
-        (length bytes.old) }
-    requires source { IsGranted (length (S.memory storage.old).bytes) (S.present storage.old) from
-        (length bytes.old) }
+    requires follows { to ≡ from + 1 }
+    requires inside { to + length bytes.old ≤ length (S.memory storage.old).bytes }
+    requires target { R.Covers storage.old to (length bytes.old) target }
+    requires source { R.Covers storage.old from 1 source }
     ensures stored { S.memory storage.new
         ≡ with_stored (S.memory storage.old) to
         (made_of Combine.Move (S.memory storage.old).bytes to from (length bytes.old)) }
     ensures rest { S.Keeps storage.old storage.new }
 {
-    storage.load(from, bytes);
-    let lag = lag_of(to, from, bytes.len() as u32);
-    repeat(bytes, lag as usize);
-    storage.store(to, bytes);
+    let byte = byte_at::<S, R>(storage, source, from);
+    set_all(bytes, byte);
+    R::store(storage, target, to, bytes);
 }
 
-/// Copies at most 256 bytes of storage, which may overlap, as if byte by byte from left to right.
+/// Copies a range of storage as if byte by byte from left to right, through a buffer of its length.
+#[inline(always)]
+fn move_through<S: Storage, R: Reach<S>>(
+    storage: &mut S,
+    target: R::Span,
+    to: u32,
+    source: R::Span,
+    from: u32,
+    bytes: &mut [u8],
+)
+    requires some { 0 < length bytes.old }
+    requires short { length bytes.old ≤ 256 }
+    requires inside { to + length bytes.old ≤ length (S.memory storage.old).bytes }
+    requires target { R.Covers storage.old to (length bytes.old) target }
+    requires source { R.Covers storage.old from (length bytes.old) source }
+    ensures stored { S.memory storage.new
+        ≡ with_stored (S.memory storage.old) to
+        (made_of Combine.Move (S.memory storage.old).bytes to from (length bytes.old)) }
+    ensures rest { S.Keeps storage.old storage.new }
+{
+    R::load(storage, source, from, bytes);
+    let lag = lag_of(to, from, bytes.len() as u32);
+    repeat(bytes, lag as usize);
+    R::store(storage, target, to, bytes);
+}
+
+/// Does MVC whose second operand overlaps the first from the left, so that it reads what it wrote.
 #[inline(never)]
-fn move_near<S: Storage>(storage: &mut S, to: u32, from: u32, count: u32)
+fn move_near<S: Storage, R: Reach<S>>(
+    storage: &mut S,
+    target: R::Span,
+    to: u32,
+    source: R::Span,
+    from: u32,
+    count: u32,
+)
     requires some { 0 < count }
     requires short { count ≤ 256 }
-    requires target { IsGranted (length (S.memory storage.old).bytes) (S.present storage.old) to
-        count }
-    requires source { IsGranted (length (S.memory storage.old).bytes) (S.present storage.old) from
-        count }
+    requires left { from ≤ to }
+    requires inside { to + count ≤ length (S.memory storage.old).bytes }
+    requires target { R.Covers storage.old to count target }
+    requires source { R.Covers storage.old from count source }
     ensures stored { S.memory storage.new
         ≡ with_stored (S.memory storage.old) to
         (made_of Combine.Move (S.memory storage.old).bytes to from count) }
     ensures rest { S.Keeps storage.old storage.new }
 {
-    let mut bytes = [0u8; 256];
-    move_through(storage, to, from, &mut bytes[..count as usize]);
+    let mut buffer = [0u8; 256];
+    let bytes = &mut buffer[..count as usize];
+    if to - from == 1 {
+        fill::<S, R>(storage, target, to, source, from, bytes);
+    } else {
+        move_through::<S, R>(storage, target, to, source, from, bytes);
+    }
 }
 
-/// Copies at most 256 bytes of storage as if byte by byte from left to right, by one copy if that
-/// gives the same.
+/// Copies a range of storage as if byte by byte from left to right, by one copy if that gives the
+/// same.
 #[inline(always)]
-fn move_at<S: Storage>(storage: &mut S, to: u32, from: u32, count: u32)
+fn move_string<S: Storage, R: Reach<S>>(
+    storage: &mut S,
+    target: R::Span,
+    to: u32,
+    source: R::Span,
+    from: u32,
+    count: u32,
+)
     requires some { 0 < count }
     requires short { count ≤ 256 }
-    requires target { IsGranted (length (S.memory storage.old).bytes) (S.present storage.old) to
-        count }
-    requires source { IsGranted (length (S.memory storage.old).bytes) (S.present storage.old) from
-        count }
+    requires inside { to + count ≤ length (S.memory storage.old).bytes }
+    requires source_inside { from + count ≤ length (S.memory storage.old).bytes }
+    requires target { R.Covers storage.old to count target }
+    requires source { R.Covers storage.old from count source }
     ensures stored { S.memory storage.new
         ≡ with_stored (S.memory storage.old) to
         (made_of Combine.Move (S.memory storage.old).bytes to from count) }
     ensures rest { S.Keeps storage.old storage.new }
 {
     if lag_of(to, from, count) < count {
-        move_near(storage, to, from, count);
+        move_near::<S, R>(storage, target, to, source, from, count);
     } else {
-        storage.copy(from, to, count);
+        R::copy(storage, source, from, target, to, count);
     }
 }
 
@@ -541,25 +477,26 @@ fn move_at<S: Storage>(storage: &mut S, to: u32, from: u32, count: u32)
 ///
 /// # Errors
 ///
-/// A `Refusal`: the program interruption, or an absent page that has to be brought first. Nothing
-/// has changed.
-pub fn move_row<S: Storage>(
-    cpu: &mut Cpu,
+/// What `R` says of an operand that is refused. Nothing has changed.
+#[inline(always)]
+pub fn move_row<S: Storage, R: Reach<S>>(
+    cpu: &Cpu,
     storage: &mut S,
     i: Instruction,
-) -> Result<Completion, Refusal>
-    ensures row { let before = state_of cpu.old (S.memory storage.old) in
-        let after = state_of cpu.new (S.memory storage.new) in
-        MeetsRow (string_combined Combine.Move before i) (S.present storage.old) before result
-        after }
+    reach: &mut R,
+) -> Result<Completion, R::Refused>
+    requires ready { R.IsReady storage.old cpu.now.psw.key reach.old }
+    ensures row { let before = state_of cpu.now (S.memory storage.old) in
+        let after = state_of cpu.now (S.memory storage.new) in
+        MeetsBy R.Refused R.Refuses (string_combined Combine.Move before i) (S.present storage.old)
+        before result after }
     ensures rest { S.Keeps storage.old storage.new }
+    ensures ready { R.IsReady storage.old cpu.now.psw.key reach.new }
 {
-    let to = cpu.based(i.second_half).get();
-    let from = cpu.based(i.third_half).get();
+    let to = cpu.based(i.second_half);
+    let from = cpu.based(i.third_half);
     let count = i.second_byte as u32 + 1;
-    let target = Range { start: to, count };
-    let source = Range { start: from, count };
-    grant_two(cpu, storage, target, Access::Store, source, Access::Fetch)?;
-    move_at(storage, to, from, count);
+    let (target, source) = reach.both(cpu, storage, Access::Store, to, count, from, count)?;
+    move_string::<S, R>(storage, target, to.get(), source, from.get(), count);
     Ok(Completion::Done)
 }

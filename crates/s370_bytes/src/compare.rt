@@ -1,16 +1,15 @@
 //! Strings of bytes against each other.
 ghost use Rattle.std.specs.Prelude.{◌≡◌, ◌≢◌, ℕ, ◌+◌, ◌<◌, ◌≤◌, true, length, slice_index};
-ghost use Rattle.std.specs.Prelude.{IfSome, slice_range, take};
+ghost use Rattle.std.specs.Prelude.{slice_range, take};
 ghost use Rattle.s370_rows.specs.State.{state_of};
-ghost use Rattle.s370_rows.specs.Rows.{MeetsRow};
+ghost use Rattle.s370_rows.specs.Reach.{MeetsBy};
 ghost use Rattle.s370_rows.specs.Arithmetic.{order_code};
 ghost use Rattle.s370_bytes.specs.Compare.{equal_pairs, string_order, strings_compared};
-ghost use Rattle.s370_bytes.specs.Strings.{LiesIn, number};
+ghost use Rattle.s370_bytes.specs.Strings.{number};
 
-use crate::straight::StringAt;
 use s370_num::ConditionCode;
-use s370_rows::{Completion, Cpu, Instruction, Refusal, grant_two, order_of};
-use s370_store::{Access, Block, Range, Storage};
+use s370_rows::{Completion, Cpu, Instruction, Reach, order_of};
+use s370_store::{Access, Storage};
 
 /// Returns whether eight bytes from index `start` on are equal in both lists.
 #[inline(always)]
@@ -70,100 +69,6 @@ pub fn string_order(xs: &[u8], ys: &[u8]) -> ConditionCode
     order_of(xs[front] as u32, ys[front] as u32)
 }
 
-/// Does CLC (D5): compares two strings of storage and sets the condition code.
-///
-/// # Errors
-///
-/// A `Refusal`: the program interruption, or an absent page that has to be brought first. Nothing
-/// has changed.
-pub fn compare_row<S: Storage>(
-    cpu: &mut Cpu,
-    storage: &S,
-    i: Instruction,
-) -> Result<Completion, Refusal>
-    ensures { let before = state_of cpu.old (S.memory storage.now) in
-        let after = state_of cpu.new (S.memory storage.now) in
-        MeetsRow (strings_compared before i) (S.present storage.now) before result after }
-{
-    let first = cpu.based(i.second_half).get();
-    let second = cpu.based(i.third_half).get();
-    let count = i.second_byte as u32 + 1;
-    let left = Range {
-        start: first,
-        count,
-    };
-    let right = Range {
-        start: second,
-        count,
-    };
-    grant_two(cpu, storage, left, Access::Fetch, right, Access::Fetch)?;
-    let mut left = [0u8; 256];
-    let mut right = [0u8; 256];
-    let count = count as usize;
-    storage.load(first, &mut left[..count]);
-    storage.load(second, &mut right[..count]);
-    cpu.psw
-        .set_condition(string_order(&left[..count], &right[..count]));
-    Ok(Completion::Done)
-}
-
-/// Loads two strings, each in a block that `find_block` returned, into `xs` and `ys`, and returns
-/// the condition code of comparing them.
-#[inline(always)]
-fn order_in<S: Storage>(
-    storage: &S,
-    left: StringAt,
-    right: StringAt,
-    xs: &mut [u8],
-    ys: &mut [u8],
-) -> ConditionCode
-    requires some { 0 < length xs.old }
-    requires same { length xs.old ≡ length ys.old }
-    requires left { LiesIn (S.IsPlaced storage.now) (length (S.memory storage.now).bytes) left
-        (length xs.old) }
-    requires right { LiesIn (S.IsPlaced storage.now) (length (S.memory storage.now).bytes) right
-        (length xs.old) }
-    ensures { let bytes = (S.memory storage.now).bytes in result ≡ string_order
-        (slice_range bytes left.start (left.start + length xs.old))
-        (slice_range bytes right.start (right.start + length xs.old)) }
-{
-    storage.load_in(left.block, left.start, xs);
-    storage.load_in(right.block, right.start, ys);
-    string_order(xs, ys)
-}
-
-/// Returns the condition code of comparing two strings, each in a block that `find_block` returned,
-/// through buffers.
-///
-/// Short strings go through short buffers, which take no time to make.
-pub fn compare_straight<S: Storage>(
-    storage: &S,
-    left: StringAt,
-    right: StringAt,
-    count: u32,
-) -> ConditionCode
-    requires some { 0 < count }
-    requires short { count ≤ 256 }
-    requires left { LiesIn (S.IsPlaced storage.now) (length (S.memory storage.now).bytes) left
-        count }
-    requires right { LiesIn (S.IsPlaced storage.now) (length (S.memory storage.now).bytes) right
-        count }
-    ensures { let bytes = (S.memory storage.now).bytes in result ≡ string_order
-        (slice_range bytes left.start (left.start + count))
-        (slice_range bytes right.start (right.start + count)) }
-{
-    let count = count as usize;
-    if count <= 16 {
-        let mut xs = [0u8; 16];
-        let mut ys = [0u8; 16];
-        order_in(storage, left, right, &mut xs[..count], &mut ys[..count])
-    } else {
-        let mut xs = [0u8; 256];
-        let mut ys = [0u8; 256];
-        order_in(storage, left, right, &mut xs[..count], &mut ys[..count])
-    }
-}
-
 /// Returns the condition code of comparing two numbers: 0 if equal, 1 if `a` is low, 2 if it is
 /// high.
 #[inline(always)]
@@ -182,61 +87,117 @@ pub fn number_order(a: u64, b: u64) -> ConditionCode
 /// Returns the first `count` of eight bytes as a number.
 #[inline(always)]
 pub fn front_number(bytes: [u8; 8], count: u32) -> u64
-    requires some { 0 < count }
-    requires few { count ≤ 8 }
+    requires { count ≤ 8 }
     ensures { result ≡ number (take count bytes) }
 {
+    if count == 0 {
+        return 0;
+    }
     u64::from_be_bytes(bytes) >> (64 - 8 * count)
 }
 
-/// Returns at most eight bytes of a block that `find_block` returned as a number; eight bytes have
-/// to lie in the block.
+/// Returns at most eight bytes of storage as a number, where eight may be loaded.
 #[inline(always)]
-pub fn number_in<S: Storage>(storage: &S, block: Block, start: u32, count: u32) -> u64
-    requires some { 0 < count }
+fn number_at<S: Storage, R: Reach<S>>(storage: &S, span: R::Span, start: u32, count: u32) -> u64
     requires few { count ≤ 8 }
-    requires placed { S.IsPlaced storage.now block }
-    requires begins { block.first ≤ start }
-    requires ends { start + 8 ≤ block.first + 2048 }
+    requires covers { R.Covers storage.now start 8 span }
     ensures { result ≡ number (slice_range (S.memory storage.now).bytes start (start + count)) }
 {
     let mut bytes = [0u8; 8];
-    storage.load_in(block, start, &mut bytes);
+    R::load(storage, span, start, &mut bytes);
     front_number(bytes, count)
 }
 
-/// Returns whether eight bytes from an address of a block on all lie in that block.
+/// Loads two strings into `xs` and `ys`, and returns the condition code of comparing them.
 #[inline(always)]
-pub fn holds_eight(block: Block, start: u32) -> bool
-    requires { block.first ≤ start }
-    ensures { result ≡ true → start + 8 ≤ block.first + 2048 }
+fn order_through<S: Storage, R: Reach<S>>(
+    storage: &S,
+    left: R::Span,
+    first: u32,
+    right: R::Span,
+    second: u32,
+    xs: &mut [u8],
+    ys: &mut [u8],
+) -> ConditionCode
+    requires some { 0 < length xs.old }
+    requires short { length xs.old ≤ 256 }
+    requires same { length xs.old ≡ length ys.old }
+    requires left { R.Covers storage.now first (length xs.old) left }
+    requires right { R.Covers storage.now second (length xs.old) right }
+    ensures { let bytes = (S.memory storage.now).bytes in result ≡ string_order
+        (slice_range bytes first (first + length xs.old))
+        (slice_range bytes second (second + length xs.old)) }
 {
-    start - block.first <= 2040
+    R::load(storage, left, first, xs);
+    R::load(storage, right, second, ys);
+    string_order(xs, ys)
 }
 
-/// Returns the condition code of comparing two strings of at most eight bytes as numbers, or `None`
-/// if they are longer or eight bytes do not lie in their blocks, which `find_block` returned.
-#[inline(always)]
-pub fn compare_few<S: Storage>(
+/// Returns the condition code of comparing two strings through buffers.
+///
+/// Short strings go through short buffers, which take less time to make.
+#[inline(never)]
+fn order_long<S: Storage, R: Reach<S>>(
     storage: &S,
-    left: StringAt,
-    right: StringAt,
+    left: R::Span,
+    first: u32,
+    right: R::Span,
+    second: u32,
     count: u32,
-) -> Option<ConditionCode>
+) -> ConditionCode
     requires some { 0 < count }
-    requires left { LiesIn (S.IsPlaced storage.now) (length (S.memory storage.now).bytes) left
-        count }
-    requires right { LiesIn (S.IsPlaced storage.now) (length (S.memory storage.now).bytes) right
-        count }
-    ensures { let bytes = (S.memory storage.now).bytes in IfSome result
-        (λ code. code ≡ string_order
-        (slice_range bytes left.start (left.start + count))
-        (slice_range bytes right.start (right.start + count))) }
+    requires short { count ≤ 256 }
+    requires left { R.Covers storage.now first count left }
+    requires right { R.Covers storage.now second count right }
+    ensures { let bytes = (S.memory storage.now).bytes in result ≡ string_order
+        (slice_range bytes first (first + count))
+        (slice_range bytes second (second + count)) }
 {
-    if count > 8 || !holds_eight(left.block, left.start) || !holds_eight(right.block, right.start) {
-        return None;
+    let count = count as usize;
+    if count <= 16 {
+        let mut xs = [0u8; 16];
+        let mut ys = [0u8; 16];
+        let (xs, ys) = (&mut xs[..count], &mut ys[..count]);
+        order_through::<S, R>(storage, left, first, right, second, xs, ys)
+    } else {
+        let mut xs = [0u8; 256];
+        let mut ys = [0u8; 256];
+        let (xs, ys) = (&mut xs[..count], &mut ys[..count]);
+        order_through::<S, R>(storage, left, first, right, second, xs, ys)
     }
-    let x = number_in(storage, left.block, left.start, count);
-    let y = number_in(storage, right.block, right.start, count);
-    Some(number_order(x, y))
+}
+
+/// Does CLC (D5): compares two strings of storage and sets the condition code.
+///
+/// # Errors
+///
+/// What `R` says of an operand that is refused. Nothing has changed.
+#[inline(always)]
+pub fn compare_row<S: Storage, R: Reach<S>>(
+    cpu: &mut Cpu,
+    storage: &S,
+    i: Instruction,
+    reach: &mut R,
+) -> Result<Completion, R::Refused>
+    requires ready { R.IsReady storage.now cpu.old.psw.key reach.old }
+    ensures row { let before = state_of cpu.old (S.memory storage.now) in
+        let after = state_of cpu.new (S.memory storage.now) in
+        MeetsBy R.Refused R.Refuses (strings_compared before i) (S.present storage.now)
+        before result after }
+    ensures ready { R.IsReady storage.now cpu.old.psw.key reach.new }
+{
+    let first = cpu.based(i.second_half);
+    let second = cpu.based(i.third_half);
+    let count = i.second_byte as u32 + 1;
+    let (left, right) = reach.both(cpu, storage, Access::Fetch, first, count, second, count)?;
+    let (first, second) = (first.get(), second.get());
+    let order = if count <= 8 && R::holds_eight(left, first) && R::holds_eight(right, second) {
+        let x = number_at::<S, R>(storage, left, first, count);
+        let y = number_at::<S, R>(storage, right, second, count);
+        number_order(x, y)
+    } else {
+        order_long::<S, R>(storage, left, first, right, second, count)
+    };
+    cpu.psw.set_condition(order);
+    Ok(Completion::Done)
 }

@@ -258,12 +258,12 @@ pub fn fetch_row_by<S: Storage, R: Reach<S>, const CODE: u8, const WAY: u8>(
         FetchRow::DivideWord => return divide_word(cpu, storage, i, reach),
         FetchRow::InsertCharacter => return insert_character(cpu, storage, i, reach),
         FetchRow::TestByte(test) => return test_byte_row(test, cpu, storage, i, reach),
-        FetchRow::ConvertToBinary => binary_row(cpu, storage, i),
-        FetchRow::InsertCharacters => insert_characters_row(cpu, storage, i),
-        FetchRow::CompareCharacters => compare_characters_row(cpu, storage, i),
+        FetchRow::InsertCharacters => return insert_characters_row(cpu, storage, i, reach),
+        FetchRow::CompareCharacters => return compare_characters_row(cpu, storage, i, reach),
         FetchRow::LoadMultiple => return load_multiple_row(cpu, storage, i, reach),
-        FetchRow::CompareStrings => compare_row(cpu, storage, i),
-        FetchRow::ScanString => translate_test_row(cpu, storage, i),
+        FetchRow::CompareStrings => return compare_row(cpu, storage, i, reach),
+        FetchRow::ScanString => return translate_test_row(cpu, storage, i, reach),
+        FetchRow::ConvertToBinary => binary_row(cpu, storage, i),
         FetchRow::CompareLong => compare_long_row(cpu, storage, i),
     };
     match tested {

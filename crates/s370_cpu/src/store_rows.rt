@@ -202,12 +202,14 @@ pub fn store_row_by<S: Storage, R: Reach<S>, const CODE: u8, const WAY: u8>(
         StoreRow::ChangeByte(change) => return change_byte_row(change, cpu, storage, i, reach),
         StoreRow::SwapWord => return swap_word_row(cpu, storage, i, reach),
         StoreRow::SwapDoubleword => return swap_doubleword_row(cpu, storage, i, reach),
-        StoreRow::StoreCharacters => store_characters_row(cpu, storage, i),
+        StoreRow::StoreCharacters => return store_characters_row(cpu, storage, i, reach),
         StoreRow::StoreMultiple => return store_multiple_row(cpu, storage, i, reach),
         StoreRow::ConvertToDecimal => return decimal_row(cpu, storage, i, reach),
-        StoreRow::CombineStrings(Combine::Move) => move_row(cpu, storage, i),
-        StoreRow::CombineStrings(operation) => combine_row(operation, cpu, storage, i),
-        StoreRow::Translate => translate_row(cpu, storage, i),
+        StoreRow::CombineStrings(Combine::Move) => return move_row(cpu, storage, i, reach),
+        StoreRow::CombineStrings(operation) => {
+            return combine_row(operation, cpu, storage, i, reach)
+        }
+        StoreRow::Translate => return translate_row(cpu, storage, i, reach),
         StoreRow::LayOut(layout) => layout_row(layout, cpu, storage, i),
         StoreRow::MoveLong => move_long_row(cpu, storage, i),
     };

@@ -32,11 +32,9 @@
 #![tactic(auto)]
 
 mod codes;
-mod masks;
 mod operands;
 mod quick;
 mod stepped;
-mod strings;
 mod supervised;
 
 pub use quick::{move_granted_parts, step_held};

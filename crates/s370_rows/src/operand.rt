@@ -4,7 +4,7 @@
 //! it stores. [`Tested`] tests each operand and says what refuses it; [`HeldBlock`] looks for it in
 //! the blocks that are held, and says nothing where it is not there.
 ghost use Rattle.std.specs.Prelude.{◌≡◌, ℕ, ◌+◌, ◌<◌, ◌≤◌, Bool, [], ◌∷◌, Err, IfErr, IfOk, None};
-ghost use Rattle.std.specs.Prelude.{length, slice_index, slice_range};
+ghost use Rattle.std.specs.Prelude.{length, slice_index, slice_range, true};
 ghost use Rattle.std.specs.Int.{to_be_bytes, w32};
 ghost use Rattle.s370_store.specs.Access.{test_of};
 ghost use Rattle.s370_store.specs.Memory.{with_stored};
@@ -95,6 +95,10 @@ pub trait Reach<S: Storage> {
         ensures ready { IsReady storage.now cpu.now.psw.key self.new }
         ensures passes { IfOk result (λ _. fault_of (state_of cpu.now (S.memory storage.now))
             (test_of access first first_count ∷ test_of Fetch second second_count ∷ []) ≡ None) }
+        ensures inside { IfOk result
+            (λ _. first + first_count ≤ length (S.memory storage.now).bytes) }
+        ensures second_inside { IfOk result
+            (λ _. second + second_count ≤ length (S.memory storage.now).bytes) }
         ensures first { IfOk result (λ spans. Covers storage.now first first_count spans.0) }
         ensures second { IfOk result (λ spans. Covers storage.now second second_count spans.1) }
         ensures refused { let m = state_of cpu.now (S.memory storage.now) in
@@ -123,6 +127,22 @@ pub trait Reach<S: Storage> {
         ensures stored { S.memory storage.new
             ≡ with_stored (S.memory storage.old) start from.now }
         ensures rest { S.Keeps storage.old storage.new };
+
+    /// Copies at most 256 bytes from one place to another, as if all were read before any is written.
+    fn copy(storage: &mut S, source: Self::Span, from: u32, target: Self::Span, to: u32, count: u32)
+        requires source { Covers storage.old from count source }
+        requires target { Covers storage.old to count target }
+        requires some { 0 < count }
+        requires short { count ≤ 256 }
+        ensures stored { S.memory storage.new
+            ≡ with_stored (S.memory storage.old) to
+            (slice_range (S.memory storage.old).bytes from (from + count)) }
+        ensures rest { S.Keeps storage.old storage.new };
+
+    /// Returns whether eight bytes from `start` on are certainly there, of which fewer were found.
+    fn holds_eight(span: Self::Span, start: u32) -> bool
+        ensures { (s : S) → (count : ℕ) → result ≡ true → Covers s start count span
+            → Covers s start 8 span };
 
     /// A part of what it covers is covered.
     ghost part: { (s : S) (start count at n : ℕ) (span : Self.Span) → Covers s start count span
@@ -214,6 +234,16 @@ impl<S: Storage> Reach<S> for Tested {
         storage.store(start, from);
     }
 
+    #[inline(always)]
+    fn copy(storage: &mut S, _source: (), from: u32, _target: (), to: u32, count: u32) {
+        storage.copy(from, to, count);
+    }
+
+    #[inline(always)]
+    fn holds_eight(_span: (), _start: u32) -> bool {
+        false
+    }
+
     ghost part = { λ s start count at n span h low high. granted_part h low high };
 
     ghost covers_kept = { λ s t start count span kept h. granted_kept (S.keeps_size s t kept)
@@ -289,6 +319,16 @@ impl<S: Storage> Reach<S> for HeldBlock {
     #[inline(always)]
     fn store(storage: &mut S, span: Block, start: u32, from: &[u8]) {
         storage.store_in(span, start, from);
+    }
+
+    #[inline(always)]
+    fn copy(storage: &mut S, source: Block, from: u32, target: Block, to: u32, count: u32) {
+        storage.copy_in(source, from, target, to, count);
+    }
+
+    #[inline(always)]
+    fn holds_eight(span: Block, start: u32) -> bool {
+        start.wrapping_sub(span.first) <= 2040
     }
 
     ghost part = { λ s start count at n span h low high. lie_part h low high };
