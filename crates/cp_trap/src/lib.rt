@@ -6,7 +6,7 @@
 //!
 //! The real machine runs a guest in the problem state, always: [`step`](s370_cpu::step) hands every
 //! privileged instruction back, whatever the program status word of the guest says. Each that the
-//! loop of `s370_quick` has not done goes to [`simulate`], which carries it out on the virtual
+//! loop of `s370_cpu` has not done goes to [`simulate`], which carries it out on the virtual
 //! registers where they are in the supervisor state, and refuses it in the virtual problem state
 //! alone. An interruption is given to the guest by [`reflect`], which swaps the virtual program
 //! status words in the guest's own storage.

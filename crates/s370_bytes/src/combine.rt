@@ -368,20 +368,22 @@ fn fill<S: Storage, R: Reach<S>>(
     to: u32,
     source: R::Span,
     from: u32,
-    bytes: &mut [u8],
+    count: u32,
 )
-    requires some { 0 < length bytes.old }
-    requires short { length bytes.old ≤ 256 }
+    requires some { 0 < count }
+    requires short { count ≤ 256 }
     requires follows { to ≡ from + 1 }
-    requires inside { to + length bytes.old ≤ length (S.memory storage.old).bytes }
-    requires target { R.Covers storage.old to (length bytes.old) target }
+    requires inside { to + count ≤ length (S.memory storage.old).bytes }
+    requires target { R.Covers storage.old to count target }
     requires source { R.Covers storage.old from 1 source }
     ensures stored { S.memory storage.new
         ≡ with_stored (S.memory storage.old) to
-        (made_of Combine.Move (S.memory storage.old).bytes to from (length bytes.old)) }
+        (made_of Combine.Move (S.memory storage.old).bytes to from count) }
     ensures rest { S.Keeps storage.old storage.new }
 {
     let byte = byte_at::<S, R>(storage, source, from);
+    let mut buffer = [0u8; 256];
+    let bytes = &mut buffer[..count as usize];
     set_all(bytes, byte);
     R::store(storage, target, to, bytes);
 }
@@ -412,7 +414,7 @@ fn move_through<S: Storage, R: Reach<S>>(
     R::store(storage, target, to, bytes);
 }
 
-/// Does MVC whose second operand overlaps the first from the left, so that it reads what it wrote.
+/// Copies at most 256 bytes of storage, which may overlap, as if byte by byte from left to right.
 #[inline(never)]
 fn move_near<S: Storage, R: Reach<S>>(
     storage: &mut S,
@@ -424,7 +426,6 @@ fn move_near<S: Storage, R: Reach<S>>(
 )
     requires some { 0 < count }
     requires short { count ≤ 256 }
-    requires left { from ≤ to }
     requires inside { to + count ≤ length (S.memory storage.old).bytes }
     requires target { R.Covers storage.old to count target }
     requires source { R.Covers storage.old from count source }
@@ -433,17 +434,19 @@ fn move_near<S: Storage, R: Reach<S>>(
         (made_of Combine.Move (S.memory storage.old).bytes to from count) }
     ensures rest { S.Keeps storage.old storage.new }
 {
-    let mut buffer = [0u8; 256];
-    let bytes = &mut buffer[..count as usize];
-    if to - from == 1 {
-        fill::<S, R>(storage, target, to, source, from, bytes);
-    } else {
-        move_through::<S, R>(storage, target, to, source, from, bytes);
-    }
+    let mut bytes = [0u8; 256];
+    move_through::<S, R>(
+        storage,
+        target,
+        to,
+        source,
+        from,
+        &mut bytes[..count as usize],
+    );
 }
 
 /// Copies a range of storage as if byte by byte from left to right, by one copy if that gives the
-/// same.
+/// same, or by one byte that fills the range.
 #[inline(always)]
 fn move_string<S: Storage, R: Reach<S>>(
     storage: &mut S,
@@ -464,10 +467,12 @@ fn move_string<S: Storage, R: Reach<S>>(
         (made_of Combine.Move (S.memory storage.old).bytes to from count) }
     ensures rest { S.Keeps storage.old storage.new }
 {
-    if lag_of(to, from, count) < count {
-        move_near::<S, R>(storage, target, to, source, from, count);
-    } else {
+    if lag_of(to, from, count) >= count {
         R::copy(storage, source, from, target, to, count);
+    } else if to - from == 1 {
+        fill::<S, R>(storage, target, to, source, from, count);
+    } else {
+        move_near::<S, R>(storage, target, to, source, from, count);
     }
 }
 

@@ -8,3 +8,4 @@ pub mod StoreRows
 pub mod Control
 pub mod Table
 pub mod Laws
+pub mod Held

@@ -2,7 +2,7 @@
 ghost use Rattle.std.specs.Prelude.{◌≡◌, ℕ, slice_index};
 ghost use Rattle.s370_rows.specs.Reach.{FindsOperand, MeetsBy};
 ghost use Rattle.s370_rows.specs.State.{state_of};
-ghost use Rattle.s370_rows.specs.Rows.{MeetsRow, fetch_test};
+ghost use Rattle.s370_rows.specs.Rows.{fetch_test};
 ghost use Rattle.s370_cpu.specs.FetchRows.{byte_tested, character_inserted};
 ghost use Rattle.s370_cpu.specs.FetchRows.{fetch_row, half_of, halfword_multiplied};
 ghost use Rattle.s370_cpu.specs.FetchRows.{halfword_operation, operand_of, word_divided};
@@ -16,8 +16,8 @@ use s370_bytes::{
 use s370_num::Addr24;
 use s370_psw::ProgramCode;
 use s370_rows::{
-    Arithmetic, ByteTest, Completion, Cpu, Instruction, Reach, Refusal, Tested, arithmetic_row,
-    byte_at, divide_row, halfword_at, halfword_operand, insert_byte_row, multiply_halfword_row,
+    Arithmetic, ByteTest, Completion, Cpu, Instruction, Reach, Refusal, arithmetic_row, byte_at,
+    divide_row, halfword_at, halfword_operand, insert_byte_row, multiply_halfword_row,
     multiply_row, test_byte, word_at,
 };
 use s370_store::Storage;
@@ -236,7 +236,7 @@ fn test_byte_row<S: Storage, R: Reach<S>>(
 ///
 /// What `R` says of an operand that is refused. Nothing has changed.
 #[inline(always)]
-pub fn fetch_row_by<S: Storage, R: Reach<S>, const CODE: u8, const WAY: u8>(
+pub fn fetch_row<S: Storage, R: Reach<S>, const CODE: u8, const WAY: u8>(
     row: FetchRow,
     cpu: &mut Cpu,
     storage: &S,
@@ -270,25 +270,4 @@ pub fn fetch_row_by<S: Storage, R: Reach<S>, const CODE: u8, const WAY: u8>(
         Ok(ending) => Ok(ending),
         Err(refusal) => Err(R::told(refusal)),
     }
-}
-
-/// Does an instruction that fetches operands from storage and stores none, with tests of each; the
-/// caller sets the next address.
-///
-/// # Errors
-///
-/// A `Refusal`: the program interruption, or an absent page that has to be brought first. Nothing
-/// has changed.
-#[inline(always)]
-pub fn fetch_row<S: Storage, const CODE: u8>(
-    row: FetchRow,
-    cpu: &mut Cpu,
-    storage: &S,
-    i: Instruction,
-) -> Result<Completion, Refusal>
-    ensures { let before = state_of cpu.old (S.memory storage.now) in
-        let after = state_of cpu.new (S.memory storage.now) in
-        MeetsRow (fetch_row row before i) (S.present storage.now) before result after }
-{
-    fetch_row_by::<S, Tested, CODE, 0>(row, cpu, storage, i, &mut Tested)
 }

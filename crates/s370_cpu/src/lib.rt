@@ -7,6 +7,15 @@
 //! interruption: who calls it swaps the program status words, and goes on with an instruction for
 //! the supervisor state by [`supervise`], of which the same holds over the table of those.
 //!
+//! A loop over instructions does the same by [`step_held`], which looks for operands in the blocks
+//! where the last ones lay and answers where the next instruction is, or that it has changed
+//! nothing; then the caller has [`step_in`] or [`step`] do the unit. That is always allowed:
+//! carrying out an instruction in the loop makes it faster, and changes nothing else. The loop does
+//! not do SSK, SIO, TIO, HIO, TCH, SVC, CVB, instructions whose overflow would interrupt, and
+//! whatever ends in an exception or needs a page that is absent. [`supervise_held`] does privileged
+//! instructions that set no storage key and ask no device; they may change masks, so the caller
+//! looks at what is pending before it goes on.
+//!
 //! Of the table itself five laws hold, over all instructions: a byte that is changed was tested for
 //! storing ([`changed_bytes_were_tested`]), its block's key in storage matches the protection key
 //! ([`protection_holds`]), the problem state gives itself no rights ([`problem_state_holds`]), an
@@ -33,24 +42,25 @@ mod control;
 mod execute;
 mod fetch;
 mod fetch_rows;
+mod held;
+mod held_codes;
+mod held_control;
 mod known;
 mod laws;
 mod opcodes;
 mod register_rows;
+mod stepped;
 mod store_rows;
 mod unit;
 
 pub use conclude::Stop;
-pub use control::{perform_control, supervise};
-pub use execute::{EXECUTE, target_of};
-pub use fetch::length_of;
-pub use fetch_rows::{fetch_row, fetch_row_by};
+pub use control::supervise;
+pub use held::{move_granted_parts, step_held};
+pub use held_control::supervise_held;
 pub use known::load_known_in;
 pub use laws::{
     changed_bytes_were_tested, few_pages_are_asked_for, few_ranges_are_tested, problem_state_holds,
     protection_holds,
 };
-pub use opcodes::{Control, FetchRow, Opcode, StoreRow, opcode_of};
-pub use register_rows::register_row;
-pub use store_rows::{store_row, store_row_by};
-pub use unit::{is_steady, may_overflow, step, step_in};
+pub use stepped::Stepped;
+pub use unit::{step, step_in};

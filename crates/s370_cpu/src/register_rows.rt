@@ -152,7 +152,7 @@ pub fn load_address(cpu: &mut Cpu, i: Instruction) -> Completion
 ///
 /// The code of the program interruption; nothing has changed.
 // The compiler drops `inline(always)` without a word from a function that takes more than some 7,000
-// LLVM instructions, and then each row is a call, several times slower (.ci/test-inlined).
+// LLVM instructions, and then each row is a call, several times slower (tests/inlined/run).
 #[inline(always)]
 pub fn register_row(
     row: RegisterRow,

@@ -2,7 +2,6 @@
 ghost use Rattle.std.specs.Prelude.{◌≡◌, ℕ, length};
 ghost use Rattle.s370_rows.specs.Reach.{MeetsBy};
 ghost use Rattle.s370_rows.specs.State.{state_of};
-ghost use Rattle.s370_rows.specs.Rows.{MeetsRow};
 ghost use Rattle.s370_cpu.specs.StoreRows.{byte_changed, character_stored, doubleword_swapped};
 ghost use Rattle.s370_cpu.specs.StoreRows.{halfword_stored, store_row, word_stored, word_swapped};
 
@@ -13,7 +12,7 @@ use s370_bytes::{
 };
 use s370_psw::ProgramCode;
 use s370_rows::{
-    ByteChange, Completion, Cpu, Instruction, Reach, Refusal, Tested, byte_at, change_byte,
+    ByteChange, Completion, Cpu, Instruction, Reach, Refusal, byte_at, change_byte,
     compare_and_swap, compare_and_swap_pair, doubleword_at, word_at,
 };
 use s370_store::Storage;
@@ -180,7 +179,7 @@ fn swap_doubleword_row<S: Storage, R: Reach<S>>(
 ///
 /// What `R` says of an operand that is refused. Nothing has changed.
 #[inline(always)]
-pub fn store_row_by<S: Storage, R: Reach<S>, const CODE: u8, const WAY: u8>(
+pub fn store_row<S: Storage, R: Reach<S>, const CODE: u8, const WAY: u8>(
     row: StoreRow,
     cpu: &mut Cpu,
     storage: &mut S,
@@ -217,26 +216,4 @@ pub fn store_row_by<S: Storage, R: Reach<S>, const CODE: u8, const WAY: u8>(
         Ok(ending) => Ok(ending),
         Err(refusal) => Err(R::told(refusal)),
     }
-}
-
-/// Does an instruction that stores an operand in storage, with tests of each; the caller sets the
-/// next address.
-///
-/// # Errors
-///
-/// A `Refusal`: the program interruption, or an absent page that has to be brought first. Nothing
-/// has changed.
-#[inline(always)]
-pub fn store_row<S: Storage, const CODE: u8>(
-    row: StoreRow,
-    cpu: &mut Cpu,
-    storage: &mut S,
-    i: Instruction,
-) -> Result<Completion, Refusal>
-    ensures row { let before = state_of cpu.old (S.memory storage.old) in
-        let after = state_of cpu.new (S.memory storage.new) in
-        MeetsRow (store_row row before i) (S.present storage.old) before result after }
-    ensures rest { S.Keeps storage.old storage.new }
-{
-    store_row_by::<S, Tested, CODE, 0>(row, cpu, storage, i, &mut Tested)
 }

@@ -4,6 +4,7 @@ ghost use Rattle.std.specs.Prelude.{true};
 ghost use Rattle.s370_store.specs.Access.{IsGranted};
 ghost use Rattle.s370_store.specs.Blocks.{MayFetch};
 ghost use Rattle.s370_rows.specs.State.{state_of};
+ghost use Rattle.s370_rows.specs.Reach.{MeetsBy};
 ghost use Rattle.s370_rows.specs.Rows.{MeetsRow};
 ghost use Rattle.s370_cpu.specs.Fetch.{fetched, halfwords_of, instruction_at};
 ghost use Rattle.s370_cpu.specs.Opcodes.{opcode_at};
@@ -21,7 +22,7 @@ use crate::register_rows::register_row;
 use crate::store_rows::store_row;
 use s370_num::Addr24;
 use s370_psw::{Ilc, ProgramCode};
-use s370_rows::{Arithmetic, Completion, Cpu, Instruction, Place, Refusal, Shift};
+use s370_rows::{Arithmetic, Completion, Cpu, Instruction, Place, Reach, Refusal, Shift, Tested};
 use s370_store::{Block, Storage, load_byte, load_byte_in};
 
 /// Does a fetched instruction that is not privileged, but refuses EX with an execute exception; the
@@ -29,8 +30,53 @@ use s370_store::{Block, Storage, load_byte, load_byte_in};
 ///
 /// The operation code is passed next to the instruction, so that where it is a constant all but
 /// that instruction's row is left out of the code.
+///
+/// # Errors
+///
+/// What `R` says of an instruction that is refused. Nothing has changed.
 #[inline(always)]
-fn perform<S: Storage>(
+pub(crate) fn perform<S: Storage, R: Reach<S>, const CODE: u8, const WAY: u8>(
+    cpu: &mut Cpu,
+    storage: &mut S,
+    place: Place,
+    opcode: u8,
+    i: Instruction,
+    reach: &mut R,
+) -> Result<Completion, R::Refused>
+    requires same { i.opcode ≡ opcode }
+    requires plain { is_supervised (opcode_at i.opcode) ≡ false }
+    requires ready { R.IsReady storage.old cpu.old.psw.key reach.old }
+    ensures row { let before = state_of cpu.old (S.memory storage.old) in
+        let after = state_of cpu.new (S.memory storage.new) in
+        MeetsBy R.Refused R.Refuses (row_of before place i) (S.present storage.old) before result
+        after }
+    ensures rest { S.Keeps storage.old storage.new }
+    ensures ready { R.IsReady storage.old cpu.old.psw.key reach.new }
+{
+    let code = match opcode_of(opcode) {
+        Opcode::Invalid => ProgramCode::Operation,
+        Opcode::Supervised(_) => unreachable!(),
+        Opcode::SupervisorCall => return Ok(Completion::SupervisorCall(i.second_byte)),
+        Opcode::Execute => ProgramCode::Execute,
+        Opcode::Computes(row) => match register_row(row, cpu, place, i) {
+            Ok(ending) => return Ok(ending),
+            Err(code) => code,
+        },
+        Opcode::Fetches(row) => { return fetch_row::<S, R, CODE, WAY>(row, cpu, storage, i, reach) }
+        Opcode::Stores(row) => { return store_row::<S, R, CODE, WAY>(row, cpu, storage, i, reach) }
+    };
+    Err(R::told(Refusal::Program(code)))
+}
+
+/// Does a fetched instruction that is not privileged, with tests of each operand; the caller sets
+/// the next address.
+///
+/// # Errors
+///
+/// A `Refusal`: the program interruption, or an absent page that has to be brought first. Nothing
+/// has changed.
+#[inline(always)]
+pub(crate) fn perform_tested<S: Storage, const CODE: u8>(
     cpu: &mut Cpu,
     storage: &mut S,
     place: Place,
@@ -44,18 +90,7 @@ fn perform<S: Storage>(
         MeetsRow (row_of before place i) (S.present storage.old) before result after }
     ensures rest { S.Keeps storage.old storage.new }
 {
-    match opcode_of(opcode) {
-        Opcode::Invalid => Err(Refusal::Program(ProgramCode::Operation)),
-        Opcode::Supervised(_) => unreachable!(),
-        Opcode::SupervisorCall => Ok(Completion::SupervisorCall(i.second_byte)),
-        Opcode::Execute => Err(Refusal::Program(ProgramCode::Execute)),
-        Opcode::Computes(row) => match register_row(row, cpu, place, i) {
-            Ok(ending) => Ok(ending),
-            Err(code) => Err(Refusal::Program(code)),
-        },
-        Opcode::Fetches(row) => fetch_row::<S, 0>(row, cpu, storage, i),
-        Opcode::Stores(row) => store_row::<S, 0>(row, cpu, storage, i),
-    }
+    perform::<S, Tested, CODE, 0>(cpu, storage, place, opcode, i, &mut Tested)
 }
 
 /// Does the instruction at the instruction address and returns how it ended; no PSW is swapped for
@@ -216,7 +251,7 @@ fn finish<S: Storage>(
     if is_supervised(opcode) {
         return Stop::Privileged(i, ilc);
     }
-    let outcome = perform(cpu, storage, Place { next, ilc }, opcode, i);
+    let outcome = perform_tested::<S, 0>(cpu, storage, Place { next, ilc }, opcode, i);
     conclude(cpu, Place { next, ilc }, outcome)
 }
 

@@ -19,12 +19,12 @@ use Rattle.s370_store.specs.declared.Access.{Access}
 use Rattle.s370_store.specs.declared.block.Block.{Block}
 use Rattle.s370_rows.specs.declared.held.HeldBlock.{HeldBlock}
 use Rattle.s370_rows.specs.Reach.{AreHeld, IsHeld}
-use Rattle.s370_quick.specs.Quick.{StepsOrStays}
+use Rattle.s370_cpu.specs.Held.{StepsOrStays}
 use Rattle.s370_cpu.specs.declared.conclude.Stop.TheVariants.{Done}
 use Rattle.s370_cpu.specs.Laws.{Rights, rights_of}
 use Rattle.s370_cpu.specs.Table.{unit}
 use Rattle.s370_cpu.specs.Unit.{Ran}
-use Rattle.s370_quick.specs.Quick.{DoesUnits}
+use Rattle.s370_cpu.specs.Held.{DoesUnits}
 use Rattle.s370_intr.specs.InputOutput.{Configuration, configuration_of}
 use Rattle.s370_intr.specs.Units.{Core, core_of, followed, instructed, look, offered, unit_at, with_configuration}
 use Rattle.s370_intr.specs.Units.{enabled_of, is_any, Needs, NeedsAt}

@@ -1,10 +1,10 @@
 //! The blocks from which the loop fetches instructions.
 ghost use Rattle.std.specs.Prelude.{◌≡◌, ◌+◌, ◌%◌, ◌<◌, ◌≤◌, IfSome, Some, true};
-ghost use Rattle.s370_quick.specs.Quick.{FollowsIn, next_after};
+ghost use Rattle.s370_cpu.specs.Held.{FollowsIn, next_after};
 ghost use Rattle.s370_intr.specs.Run.{AreAt, IsFetched};
 
+use s370_cpu::Stepped;
 use s370_num::{AccessKey, Addr24};
-use s370_quick::Stepped;
 use s370_store::{Access, Block, Storage};
 
 /// The last block of 16 MiB. Instructions in it are left to the unit, so that no address after one

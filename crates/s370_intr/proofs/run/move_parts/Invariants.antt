@@ -1,6 +1,6 @@
 use Rattle.std.proofs.Common.{◌≡◌, ◌-◌, ◌≤◌}
 use Rattle.s370_rows.specs.State.{state_of}
-use Rattle.s370_quick.specs.Quick.{IsLongMoveAt}
+use Rattle.s370_cpu.specs.Held.{IsLongMoveAt}
 use Rattle.s370_intr.specs.Run.{DoesInstructions}
 use Rattle.s370_intr.proofs.run.move_parts.Given as goal
 

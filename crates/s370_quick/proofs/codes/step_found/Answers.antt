@@ -1,4 +1,0 @@
-use Rattle.s370_quick.proofs.codes.step_found.Goals as goal
-
-pub returns-in_default-clause-rest : goal.returns-in_default-clause-rest
-returns-in_default-clause-rest g c = g.met.S.Storage.keeps_same _
