@@ -15,19 +15,6 @@ use Rattle.s370_bytes.proofs.Changes.{made_is, lagged_source}
 use Rattle.s370_bytes.proofs.Places.{length-put, put_below, put_inside, put_above, range_inside}
 use Rattle.s370_bytes.proofs.Translated.{made_is as translated_front}
 
--- eight bytes are the same number whichever way they are read
-pub number_eight : (xs : List ℕ) → length xs ≡ 8 → from_be_bytes w64 xs ≡ number xs
-number_eight [] l = absurd (omega arith)
-number_eight (a ∷ []) l = absurd (omega arith)
-number_eight (a ∷ b ∷ []) l = absurd (omega arith)
-number_eight (a ∷ b ∷ c ∷ []) l = absurd (omega arith)
-number_eight (a ∷ b ∷ c ∷ d ∷ []) l = absurd (omega arith)
-number_eight (a ∷ b ∷ c ∷ d ∷ e ∷ []) l = absurd (omega arith)
-number_eight (a ∷ b ∷ c ∷ d ∷ e ∷ f ∷ []) l = absurd (omega arith)
-number_eight (a ∷ b ∷ c ∷ d ∷ e ∷ f ∷ g ∷ []) l = absurd (omega arith)
-number_eight (a ∷ b ∷ c ∷ d ∷ e ∷ f ∷ g ∷ h ∷ []) l = omega arith
-number_eight (a ∷ b ∷ c ∷ d ∷ e ∷ f ∷ g ∷ h ∷ i ∷ xs) l = absurd (omega arith)
-
 -- the first n of eight bytes are what their number has to the left of the others
 pub front_is : (xs : List ℕ) (n : ℕ) → length xs ≡ 8 → n ≤ 8 → ((j : ℕ) → get_or xs j 0 < 256)
     → from_be_bytes w64 xs / 2 ^ (64 - 8 * n) ≡ number (take n xs)

@@ -1,10 +1,7 @@
 -- A string loaded over pads.
-use Rattle.std.proofs.Common.{◌≡◌, ℕ, zero, suc, ◌+◌, ◌-◌, ◌<◌, ◌≤◌, List, [], ◌∷◌, ◌++◌, length, get_or, drop, take}
-use Rattle.std.proofs.Common.{replicate, refl, ap, sym, ◌∙◌, arith}
-use Rattle.std.specs.List.{slice_range}
-use Rattle.std.proofs.lemmas.List.{length-take-le}
+use Rattle.std.proofs.Common.{◌≡◌, ℕ, zero, suc, ◌-◌, ◌<◌, List, [], ◌∷◌, ◌++◌, length, get_or, drop}
+use Rattle.std.proofs.Common.{replicate, refl, ap, arith}
 use Rattle.s370_bytes.specs.Strings.{padded}
-use Rattle.s370_bytes.proofs.Places.{length-range}
 
 drop_replicate : (n k pad : ℕ) → drop k (replicate n pad) ≡ replicate (n - k) pad
 drop_replicate zero zero pad = refl
@@ -20,23 +17,6 @@ padded_is xs pads pad k n p l =
 
 pub padded_none : (pad n : ℕ) → padded [] pad n ≡ replicate n pad
 padded_none pad n = let e : n - 0 ≡ n = omega arith in rw e refl
-
-pub loaded_is : (bytes xs pads made : List ℕ) (from k pad n : ℕ) → from + k ≤ length bytes → pads ≡ replicate n pad
-    → k ≤ length pads
-    → xs ≡ slice_range bytes from (from + length (take k pads)) → made ≡ xs ++ drop k pads
-    → made ≡ padded (slice_range bytes from (from + k)) pad n
-loaded_is bytes xs pads made from k pad n h p l e f =
-    let t : length (take k pads) ≡ k = length-take-le k pads l in
-    let r : xs ≡ slice_range bytes from (from + k) = e ∙ ap (λ (i : ℕ). slice_range bytes from (from + i)) t in
-    let m : length (slice_range bytes from (from + k)) ≡ k = length-range bytes from k h in
-    f ∙ ap (λ (ys : List ℕ). ys ++ drop k pads) r ∙ padded_is (slice_range bytes from (from + k)) pads pad k n p m
-
-pub unloaded_is : (bytes pads made : List ℕ) (from k pad n : ℕ) → k ≤ 0 → pads ≡ replicate n pad → made ≡ pads
-    → made ≡ padded (slice_range bytes from (from + k)) pad n
-unloaded_is bytes pads made from zero pad n h p f =
-    let e : from + 0 - from ≡ 0 = omega arith in
-    f ∙ p ∙ sym (rw e (padded_none pad n))
-unloaded_is bytes pads made from (suc k) pad n h p f = absurd (omega arith)
 
 -- A list of one value has its length.
 pub length-replicate : (n pad : ℕ) → length (replicate n pad) ≡ n

@@ -1,22 +1,14 @@
 -- Bytes of a storage that are translated by a table in it, one by one or through a buffer.
-use Rattle.std.proofs.Common.{◌≡◌, ◌≢◌, ℕ, zero, suc, ◌+◌, ◌<◌, ◌≤◌, ⊎_elim, Bool, true, List, [], ◌∷◌, ◌++◌, length}
+use Rattle.std.proofs.Common.{◌≡◌, ◌≢◌, ℕ, zero, suc, ◌+◌, ◌<◌, ◌≤◌, ⊎_elim, true, List, [], ◌∷◌, ◌++◌, length}
 use Rattle.std.proofs.Common.{get_or, set, take, drop, refl, sym, ap, ◌∙◌, arith, add-one, length-set}
 use Rattle.std.proofs.lemmas.Grind.{same_number_lists}
 use Rattle.std.proofs.lemmas.List.{get_or-set_same, get_or-set_other}
 use Rattle.std.proofs.lemmas.Bool.{cases_lt, cases_eq}
 use Rattle.std.proofs.lemmas.Bool.Decides.{nat_tests}
 use Rattle.std.specs.List.{slice_range}
-use Rattle.s370_store.specs.Access.{IsGranted, put}
+use Rattle.s370_store.specs.Access.{put}
 use Rattle.s370_bytes.specs.Translate.{translated, translation, are_disjoint, zeros}
 use Rattle.s370_bytes.proofs.Places.{put_range, range_inside, length-range}
-
--- one byte of a granted range
-pub granted_one : (size : ℕ) (present : ℕ → Bool) (start n k : ℕ) → IsGranted size present start n → k < n
-    → IsGranted size present (start + k) 1
-granted_one size present start n k g h = record {
-  inside = omega (arith, g.inside);
-  here = λ j small. (let e : start + k + j ≡ start + (k + j) = omega arith in rw e (g.here (k + j) (omega arith)));
-}
 
 put_one : (xs : List ℕ) (i y : ℕ) → i < length xs → take i xs ++ (y ∷ drop 1 (drop i xs)) ≡ set xs i y
 put_one [] i y h = absurd (omega arith)

@@ -63,9 +63,6 @@ kept : (m : State) (e : Ended) → GoesOn e.ending → rights_of (record m { cpu
     → EndsQuiet m (Ok e)
 kept m e g h = record { goes_on = g; rights = h }
 
-left_quiet : (m : State) (l : Left) → GoesOn l.ending → rights_of (after m l) ≡ rights_of m → LeavesQuiet m (Ok l)
-left_quiet m l g h = record { goes_on = g; rights = h }
-
 -- ---- rows that access no storage
 
 result_quiet : (m : State) (r : Result Ended ProgramCode) → EndsQuiet m r → LeavesQuiet m (over_result r)

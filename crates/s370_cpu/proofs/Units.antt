@@ -53,18 +53,6 @@ asks_fetched rows m ss (Ok i) page h =
     let x = executed m i in asks_executed rows m (ss ++ x.stages) (place_at m (halfwords_of i.opcode)) x.result page
     (asks_left m ss x.stages page h)
 
--- a unit whose fetch fails
-pub fetch_fails : (rows : State → Place → Instruction → Row) (m : State) (code : ProgramCode) (present : ℕ → Bool)
-    → (fetched m m.cpu.psw.address).result ≡ Err code → MeetsUnit (unit_over rows m) present m (Program code 0) m
-fetch_fails rows m code present e = rw e
-
--- a unit whose fetch misses a page
-pub fetch_misses : (rows : State → Place → Instruction → Row) (m : State) (page : Page) (present : ℕ → Bool)
-    → IsAbsent (length m.bytes) present page.0 × Asks m (fetched m m.cpu.psw.address).stages page.0
-    → MeetsUnit (unit_over rows m) present m (Absent page) m
-fetch_misses rows m page present h =
-    let f = fetched m m.cpu.psw.address in (refl, h.0, asks_fetched rows m f.stages f.result page.0 h.1)
-
 -- a row that meets its definition, and is concluded, makes the rest of a unit
 pub carried_meets : (rows : State → Place → Instruction → Row) (present : ℕ → Bool) (m : State) (place : Place)
     (i : Instruction) (outcome : Result Completion Refusal) (m' : State)

@@ -5,6 +5,8 @@ ghost use Rattle.s370_store.specs.Blocks.{MayFetch};
 ghost use Rattle.s370_rows.specs.Ending.{GoesOn};
 ghost use Rattle.s370_rows.specs.State.{state_of};
 ghost use Rattle.s370_rows.specs.Reach.{AreHeld};
+ghost use Rattle.s370_rows.specs.Rows.{MeetsRow};
+ghost use Rattle.s370_rows.specs.declared.ending.Completion.TheVariants as endings;
 ghost use Rattle.s370_cpu.specs.declared.conclude.Stop.TheVariants as stops;
 ghost use Rattle.s370_cpu.specs.Fetch.{fetched, halfwords_of, instruction_at};
 ghost use Rattle.s370_cpu.specs.Held.{DoesUnits, FollowsIn, IsAt, IsLongMoveAt};
@@ -19,10 +21,12 @@ use crate::held_codes::{finish_target, step_found};
 use crate::known::load_known_in;
 use crate::opcodes::{FetchRow, Opcode, StoreRow, opcode_of};
 use crate::stepped::Stepped;
-use crate::unit::{is_steady, may_overflow, perform, perform_tested};
-use s370_bytes::move_long_parts;
+use crate::unit::{is_steady, may_overflow, perform};
+use s370_bytes::{
+    Combine, combine_row, compare_row, move_long_parts, move_row, translate_row, translate_test_row,
+};
 use s370_num::Addr24;
-use s370_rows::{Completion, Cpu, HeldBlock, Instruction, Place};
+use s370_rows::{Completion, Cpu, HeldBlock, Instruction, Place, Tested};
 use s370_store::{Block, Storage};
 
 /// The way of an instruction whose turn it is.
@@ -337,17 +341,6 @@ fn perform_steady<S: Storage, const CODE: u8, const WAY: u8>(
     perform_held::<S, CODE, WAY>(cpu, storage, place, i, held)
 }
 
-/// Returns whether an operation code is that of an instruction on strings, of which long ones often
-/// lie in two blocks: to leave the loop for them would cost more than the tests.
-#[inline(always)]
-fn is_string(code: u8) -> bool {
-    match opcode_of(code) {
-        Opcode::Fetches(FetchRow::CompareStrings | FetchRow::ScanString) => true,
-        Opcode::Stores(StoreRow::CombineStrings(_) | StoreRow::Translate) => true,
-        _ => false,
-    }
-}
-
 /// Does a fetched instruction over the held blocks, or strings with tests of each, or returns `None`
 /// and changes only `held`; the caller sets the next address.
 #[inline(always)]
@@ -369,37 +362,44 @@ fn perform_held<S: Storage, const CODE: u8, const WAY: u8>(
     ensures operands { AreHeld (S.IsPlaced storage.old) (S.memory storage.old)
         (S.present storage.old) cpu.old.psw.key held.new }
 {
-    let Place { next, ilc } = place;
-    match perform::<S, HeldBlock, CODE, WAY>(cpu, storage, Place { next, ilc }, CODE, i, held) {
-        Ok(ending) => Some(ending),
-        Err(()) => if is_string(CODE) {
-            let place = Place { next, ilc };
-            let (second_byte, second_half, third_half) = (
-                i.second_byte,
-                i.second_half,
-                i.third_half,
-            );
-            perform_string::<S, CODE>(cpu, storage, place, second_byte, second_half, third_half)
-        } else {
-            None
-        },
+    match perform::<S, HeldBlock, CODE, WAY>(cpu, storage, place, CODE, i, held) {
+        Ok(ending) => return Some(ending),
+        Err(()) => {}
+    }
+    let (second_byte, second_half, third_half) = (i.second_byte, i.second_half, i.third_half);
+    if is_string(CODE)
+        && perform_string::<S, CODE>(cpu, storage, second_byte, second_half, third_half)
+    {
+        return Some(Completion::Done);
+    }
+    None
+}
+
+/// Returns whether an operation code is that of an instruction on strings, of which long ones often
+/// lie in two blocks: to leave the loop for them would cost more than the tests.
+#[inline(always)]
+fn is_string(code: u8) -> bool {
+    match opcode_of(code) {
+        Opcode::Fetches(FetchRow::CompareStrings | FetchRow::ScanString) => true,
+        Opcode::Stores(StoreRow::CombineStrings(_) | StoreRow::Translate) => true,
+        _ => false,
     }
 }
 
-/// Does a fetched instruction on strings with tests of each, or returns `None` and changes nothing.
+/// Does an instruction on strings with tests of each and returns true, or returns false and changes
+/// nothing.
 ///
 /// It is given the parts of the instruction, so that the loop need not write it to memory.
 #[inline(never)]
 fn perform_string<S: Storage, const CODE: u8>(
     cpu: &mut Cpu,
     storage: &mut S,
-    place: Place,
     second_byte: u8,
     second_half: u16,
     third_half: u16,
-) -> Option<Completion>
-    requires plain { is_supervised (opcode_at CODE) ≡ false }
-    ensures row { let before = state_of cpu.old (S.memory storage.old) in
+) -> bool
+    ensures done { (place : Place) → result ≡ true
+        → let before = state_of cpu.old (S.memory storage.old) in
         let after = state_of cpu.new (S.memory storage.new) in
         let i : Instruction = record {
           opcode = CODE;
@@ -407,7 +407,10 @@ fn perform_string<S: Storage, const CODE: u8>(
           second_half = second_half;
           third_half = third_half;
         } in
-        MeetsAtOnce (row_of before place i) (S.present storage.old) before result after }
+        MeetsRow (row_of before place i) (S.present storage.old) before (Ok endings.Done) after }
+    ensures still { let before = state_of cpu.old (S.memory storage.old) in
+        let after = state_of cpu.new (S.memory storage.new) in
+        result ≡ false → after ≡ before }
     ensures rest { S.Keeps storage.old storage.new }
 {
     let i = Instruction {
@@ -416,8 +419,36 @@ fn perform_string<S: Storage, const CODE: u8>(
         second_half,
         third_half,
     };
-    match perform_tested::<S, CODE>(cpu, storage, place, CODE, i) {
-        Ok(ending) => Some(ending),
-        Err(_) => None,
+    let reach = &mut Tested;
+    match opcode_of(CODE) {
+        Opcode::Fetches(FetchRow::CompareStrings) => {
+            match compare_row(cpu, storage, i, reach) {
+                Ok(_) => true,
+                Err(_) => false,
+            }
+        }
+        Opcode::Fetches(FetchRow::ScanString) => {
+            match translate_test_row(cpu, storage, i, reach) {
+                Ok(_) => true,
+                Err(_) => false,
+            }
+        }
+        Opcode::Stores(StoreRow::CombineStrings(Combine::Move)) => {
+            match move_row(cpu, storage, i, reach) {
+                Ok(_) => true,
+                Err(_) => false,
+            }
+        }
+        Opcode::Stores(StoreRow::CombineStrings(operation)) => {
+            match combine_row(operation, cpu, storage, i, reach) {
+                Ok(_) => true,
+                Err(_) => false,
+            }
+        }
+        Opcode::Stores(StoreRow::Translate) => match translate_row(cpu, storage, i, reach) {
+            Ok(_) => true,
+            Err(_) => false,
+        },
+        _ => false,
     }
 }

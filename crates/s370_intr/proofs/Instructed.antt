@@ -35,12 +35,6 @@ whole m m1 devices c2 present (Privileged i ilc) u n e = e ∙ sym
     (ap (λ (r : Ran). followed r.stop (configuration_of r.state devices)) u)
 whole m m1 devices c2 present (Absent page) u n e = absurd (n page refl)
 
--- an instruction that misses a page
-pub instruction_misses : (m m1 : State) (devices : List Subchannel) (present : ℕ → Bool) (page : Page)
-    → MeetsUnit (unit m) present m (Absent page) m1 → MeetsInstruction present (configuration_of m devices) (Err page)
-    (configuration_of m1 devices)
-instruction_misses m m1 devices present page h = (ap (λ (x : State). configuration_of x devices) h.0, h.1, inl h.2)
-
 -- what interrupts or asks a device has changed registers alone
 put_back : (m m1 : State) (devices : List Subchannel) (c2 : Configuration) → m1.bytes ≡ m.bytes → m1.keys ≡ m.keys
     → c2 ≡ configuration_of m1 devices → record c2 { processor = record c2.processor { cpu = m.cpu } } ≡

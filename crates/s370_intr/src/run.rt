@@ -207,7 +207,7 @@ struct UnitsDone {
     is_plain: bool,
 }
 
-/// What an instruction did that the quick loop left out.
+/// What an instruction did that the loop left out.
 #[derive(Clone, Copy)]
 struct LeftOut {
     units: u32,
@@ -305,7 +305,7 @@ fn instruct_held<S: Storage>(
     }
 }
 
-/// Does the instruction that the quick loop left out, or for MVCL whole parts of it, at most
+/// Does the instruction that the loop left out, or for MVCL whole parts of it, at most
 /// `limit`, and returns how many units it did and whether an instruction is surely next.
 ///
 /// None is done if a page is absent.
@@ -351,7 +351,7 @@ fn instruct_tested<P: Processor, S: Keyed>(
     }
 }
 
-/// Does the instruction that the quick loop left out, or for MVCL whole parts of it, at most
+/// Does the instruction that the loop left out, or for MVCL whole parts of it, at most
 /// `limit`, and returns what it did and whether the blocks are still what they were.
 ///
 /// SVC, and a privileged instruction that sets no storage key and asks no device, leave them, unless
