@@ -3,7 +3,7 @@
 Called by tests/commands/people.py too. The last line is 'N passed, M failed'."""
 from __future__ import annotations
 
-from collections.abc import Callable
+from collections.abc import Callable, Iterator
 import asyncio
 import os
 import shutil
@@ -16,13 +16,29 @@ import time
 sys.dont_write_bytecode = True
 TOP = os.path.dirname(os.path.dirname(os.path.dirname(os.path.realpath(__file__))))
 sys.path[:0] = [TOP, f"{TOP}/bin/lib"]
+from gathjumli.cli import Failure
+from gathjumli.following import Program
+from gathjumli.machines import of_directory, room_for_all
+from gathjumli.state_growth import NUMBER, PAGE, PlacedState, grown
+from gathjumli.turning import judge
 from tests.installation.operators import operator
 from tests.installation.states import TURN_STEPS, killed_site
 from tests.installation.town import lay_out
 from tests.lib.counting import Counts
 from tests.lib.files import names_in, read, write
 from tests.lib.images import blank_image
-from tests.lib.sites import BANNER, DEVICES, DIRECTORY, Site, logged_on, on, person, run, sizes_of
+from tests.lib.sites import (
+    BANNER,
+    DEVICES,
+    DIRECTORY,
+    Site,
+    logged_on,
+    make_site,
+    on,
+    person,
+    run,
+    sizes_of,
+)
 
 Check = Callable[..., None]
 
@@ -261,6 +277,69 @@ def try_disks(check: Check, site: Site) -> None:
     check("it is suspended", site.stop() == 0, *site.findings)
 
 
+# --- states that are put together wrongly ---
+
+
+def at_place(data: bytes, place: int, piece: bytes) -> bytes:
+    """Bytes with other ones from a place on."""
+    return data[:place] + piece + data[place + len(piece) :]
+
+
+def wrong_states(state: PlacedState, booted: PlacedState) -> Iterator[tuple[str, bytes]]:
+    """States that take a user's place or give somebody what is another's, by what is wrong."""
+    right = grown(state, booted)
+    yield "a state over a shorter directory", state.data
+    yield "a further user in the place of one", right.replace(state.user(1), booted.user(3))
+    made = PlacedState(right)
+    first, last = made.users.starts[0], made.users.starts[1]
+    yield "a user more before all", right[:first] + right[first:last] + right[first:]
+    yield "a further user who is not as booted", right.replace(made.user(3), made.user(2))
+    # his first page in the last frame, with what is in ALICE's
+    page = b"\1" + state.storage_of(0)[9:][:PAGE]
+    storage = made.pool.storages.starts[3] + 9
+    owner = made.pool.supply.owners.starts[-1]
+    placed = right[:storage] + page + right[storage + 1 :]
+    there = b"\1\1" + NUMBER.pack(3) + NUMBER.pack(0)
+    yield "a further user with storage of another", placed[:owner] + there + placed[owner + 2 :]
+    keys = made.users.values[0].keys.end - 8
+    yield "a user with another key", at_place(right, keys, NUMBER.pack(7))
+
+
+def try_wrong(check: Check, program: str, folder: str) -> None:
+    """A state that is put together wrongly is refused: by the program, or by what it answers of each user."""
+    os.makedirs(folder)
+    volume = f"{folder}/volume"
+    write(volume, blank_image("V1", 1))
+
+    def begun(name: str, directory: str) -> Program:
+        write(f"{folder}/{name}", directory)
+        machines = of_directory(f"{folder}/{name}", [], [volume])
+        room_for_all(machines)
+        machines.path = program
+        return Program(machines, "--terminals")
+
+    def placed(running: Program, script: bytes) -> PlacedState:
+        running.do(script)
+        saved = PlacedState(running.save().whole())
+        running.close()
+        return saved
+
+    script = b"LINE ALICE LOGON\nLINE ALICE STORE 0 12345678\nLINE BOB LOGON\n"
+    state = placed(begun("before", DIRECTORY), script)
+    booted = placed(begun("longer", DIRECTORY + CAROL), b"")
+    wrong = {"none": grown(state, booted), **dict(wrong_states(state, booted))}
+    for name, data in wrong.items():
+        running = begun("longer", DIRECTORY + CAROL)
+        try:
+            running.restore(len(data), [data])
+            judge(running, PlacedState(data), state, booted)
+            is_refused = False
+        except Failure:
+            is_refused = True
+        running.close()
+        check(f"refused: {name}", is_refused == (name != "none"))
+
+
 # --- a command that dies between two steps ---
 
 
@@ -300,10 +379,11 @@ def try_step(check: Check, site: Site, step: str, is_second: bool) -> None:
     check("it is suspended", site.stop() == 0, *site.findings)
 
 
-def try_further(check: Check, command: str, folder: str, pause: float = PAUSE) -> None:
+def try_further(
+    check: Check, command: str, program: str, folder: str, pause: float = PAUSE
+) -> None:
     """All that is tried in seconds, over the program."""
-    from tests.lib.sites import make_site
-
+    try_wrong(check, program, f"{folder}/wrong")
     try_refused(check, site_with_volume(make_site(command, f"{folder}/refused")))
     site = site_with_volume(make_site(command, f"{folder}/added"))
     try_added(check, site, pause)
@@ -322,8 +402,10 @@ def main() -> None:
     folder = tempfile.mkdtemp()
     totals = Counts()
     try:
-        command = f"{lay_out(folder, is_unproved)}/bin/installation"
-        try_further(totals.check, command, folder, UNPROVED_PAUSE if is_unproved else PAUSE)
+        repository = lay_out(folder, is_unproved)
+        command, program = f"{repository}/bin/installation", f"{repository}/programs/gathjumli_cli"
+        pause = UNPROVED_PAUSE if is_unproved else PAUSE
+        try_further(totals.check, command, program, folder, pause)
     finally:
         shutil.rmtree(folder)
     sys.exit(totals.report())

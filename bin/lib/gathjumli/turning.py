@@ -112,7 +112,7 @@ class Turn:
             if len(data) > MOST_BYTES:
                 raise Failure(REFUSED, f"the state would have more than {MOST_BYTES} bytes")
             self.program.restore(len(data), [data])
-            self.judge(PlacedState(data), state)
+            judge(self.program, PlacedState(data), state, self.booted)
             aside = self.put(SavedState([data]), notes)
         finally:
             engine.is_saving = False
@@ -120,18 +120,6 @@ class Turn:
         last = LastState(len(data), time.monotonic() - begun)
         engine.states.has_turned(engine.seconds_to_repeat(), last)
         return aside
-
-    def judge(self, made: PlacedState, state: PlacedState) -> None:
-        """Refuses a program that has not, by its own answer, each user of the session as he was, and each further one as after a
-        boot."""
-        count = len(state.users.starts)
-        for number in range(len(made.users.starts)):
-            of = state if number < count else self.booted
-            answer = whole_of(self.program.save_user(number))
-            user, storage = made.user(number), of.storage_of(number)
-            is_same = of.user(number) == made.without_more(number, of)
-            if not (is_same and answer.startswith(user) and answer.endswith(storage)):
-                raise Failure(REFUSED, "the program would have other machines: nothing is changed")
 
     def put(self, saved: SavedState, notes: dict[str, Any]) -> str:
         """Puts the next recording, and the state from which it goes on, in the place of this one."""
@@ -172,6 +160,19 @@ class Turn:
         if self.machines:
             self.machines.close()
         self.checkpoint.undo_turn(self.engine.recording)
+
+
+def judge(
+    program: Program, made: PlacedState, state: PlacedState, booted: PlacedState
+) -> None:
+    """Refuses a program that has not, by its own answer, each user of a state as he was, and each further one as after a boot."""
+    for number in range(len(made.users.starts)):
+        of = state if number < len(state.users.starts) else booted
+        answer = whole_of(program.save_user(number))
+        user, storage = made.user(number), of.storage_of(number)
+        is_same = of.user(number) == made.without_more(number, of)
+        if not (is_same and answer.startswith(user) and answer.endswith(storage)):
+            raise Failure(REFUSED, "the program would have other machines")
 
 
 def whole_of(saved: SavedState | None) -> bytes:

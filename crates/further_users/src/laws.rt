@@ -1,0 +1,13 @@
+//! What a state with further users is a state of.
+ghost use Rattle.further_users.specs.Longer.{LongerStatesKeepUsers};
+
+use cp_core::one_by_saved;
+
+/// States that a system which is saved as the state of another one with the further users of a boot
+/// has each user of that one exactly as he was, and each further one as he was booted, over the
+/// volumes and with the files of that one.
+pub fn further_users_change_nobody()
+    ensures { LongerStatesKeepUsers }
+{
+    one_by_saved();
+}
