@@ -54,9 +54,7 @@ TESTS_DISK = ("STORE 100 9D000191052082000200", "STORE 200 0002000000000000", "B
 
 def with_disk(user: str, disk: str) -> str:
     """The directory with a further minidisk of a user."""
-    return DIRECTORY.replace(f"USER {user}", f"USER {user}", 1).replace(
-        DEVICES, DEVICES + disk, 1
-    )
+    return DIRECTORY.replace(f"USER {user}", f"USER {user}", 1).replace(DEVICES, DEVICES + disk, 1)
 
 
 # what is refused, and what is said of it
@@ -68,7 +66,7 @@ REFUSED = {
     DIRECTORY.removesuffix("SPOOL 00E PRINTER\n"): "has no longer the line SPOOL 00E PRINTER of OPER",
     DIRECTORY + "SPOOL 01E PRINTER\n": "line 16 adds SPOOL 01E PRINTER to OPER",
     DIRECTORY.replace("SPOOL 00C READER\n", "", 1): "line 3 is SPOOL 00D PUNCH, and was SPOOL 00C READER",
-    DIRECTORY + CAROL.replace("64K", "63K"): "storage",
+    "* NEW\n" + DIRECTORY + CAROL.replace("64K", "63K"): "BadStorage 17",
     DIRECTORY + CAROL.replace("V1", "V2"): "V2",
     DIRECTORY + CAROL + "USER DAVE NEW 64K\n" + DISK: "cylinders 0 to 0 and cylinders 0 to 0 of V1 meet",
     DIRECTORY + CAROL.replace("CAROL", "ALICE"): "ALICE",
@@ -155,7 +153,10 @@ def try_added(check: Check, site: Site, pause: float) -> None:
         oper.type(*COUNTS, "BEGIN")
         await answered(alice, "STORE 200 12345678", "STORED")
         done = asyncio.Event()
-        waits = [asyncio.create_task(types(one, place, done)) for place, one in enumerate((alice, bob), 3)]
+        waits = [
+            asyncio.create_task(types(one, place, done))
+            for place, one in enumerate((alice, bob), 3)
+        ]
         # a line that is not whole yet
         await asyncio.sleep(0.3)
         again = await on(site, "OPER", "SECRET")

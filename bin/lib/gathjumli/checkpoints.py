@@ -183,7 +183,8 @@ class Checkpoint:
         text_with: Callable[[str], bytes],
     ) -> str:
         """Sets a recording aside, and has another one in its place that goes on from a state over another directory; the folder of the
-        first one. The file of the state is written first, its sum is in the text, and the last step makes it count."""
+        first one. The file of the state is written first, its sum is in the text, and the last step makes it count.
+        """
         aside, following = recording.aside(), os.path.join(self.folder, "recording")
         digits = write(self.beginning())
         write_whole(following, text_with(digits), is_settled=True)

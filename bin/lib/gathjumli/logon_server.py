@@ -251,7 +251,11 @@ class LogonServer:
         for user in users:
             user.terminal = Terminal(self, len(self.people))
             self.people.append(user)
-        self.begin()
+        try:
+            self.begin()
+        except OSError:
+            self.has_failed.set()
+            raise
         for user in self.people:
             self.tell_of(user)
         # of too many strangers one goes, and nobody else
@@ -284,7 +288,6 @@ class LogonServer:
         # the answer to what it has asked then
         self.flush()
         self.moved = None
-
 
     # --- the lines that pass (crates/logon_desk_cli/src: frame.rt, printing.rt) ---
 
@@ -348,7 +351,9 @@ class LogonServer:
         if connection is self.moved:
             return
         text = read_bytes(data)
-        connection.is_hidden = text.endswith(HIDDEN) or connection.is_hidden and SHOWN_AGAIN not in text
+        connection.is_hidden = (
+            text.endswith(HIDDEN) or connection.is_hidden and SHOWN_AGAIN not in text
+        )
         connection.answers += not connection.user
         connection.send(text)
 

@@ -8,7 +8,7 @@ from collections.abc import Callable, Iterator
 from typing import Any, NamedTuple
 
 from gathjumli.cli import Failure, REFUSED
-from gathjumli.state_view import NUMBER, PAGE, Reader, Values, malformed
+from gathjumli.state_view import NUMBER, PAGE, Reader, Values
 
 # an entry of a list has a mark before it
 MARK = b"\1"
@@ -173,10 +173,7 @@ def more_disks(
     for subchannel, start, end in zip(others.values, others.starts, ends):
         if subchannel.address not in known:
             later = [
-                place
-                for place, address in zip(there.starts, known)
-                if address > subchannel.address
+                place for place, address in zip(there.starts, known) if address > subchannel.address
             ]
             place = min([*later, there.end])
             yield place, place, booted.data[start:end]
-

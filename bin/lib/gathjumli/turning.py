@@ -10,6 +10,8 @@ from gathjumli.additions import Additions, additions
 from gathjumli.checkpoints import Checkpoint, TURNED
 from gathjumli.cli import FILE_FAILED, Failure, REFUSED, write_whole
 from gathjumli.following import NotFollowed, Program, SavedState
+from gathjumli.host import size_text
+from gathjumli.limits import LITTLE_FREE
 from gathjumli.machines import Machines, of_directory, room_for_all
 from gathjumli.reasons import reason
 from gathjumli.recording import (
@@ -24,7 +26,9 @@ from gathjumli.state_growth import PlacedState, grown
 from gathjumli.states import LastState
 from gathjumli.users import User
 
-IN_STORE = "an installation in a store takes no users while people are on: end it, and start it again"
+IN_STORE = (
+    "an installation in a store takes no users while people are on: end it, and start it again"
+)
 UNWRITTEN = "files for the operator are not written yet: give the command again when they are"
 
 
@@ -62,9 +66,15 @@ class Turn:
 
     def prepare(self) -> None:
         """Boots the longer directory, and has at hand all that does not hang on the moment."""
-        engine = self.engine
-        self.checkpoint.prepare_turn(engine.recording)
+        recording = self.engine.recording
+        self.checkpoint.prepare_turn(recording)
         self.machines = self.longer_machines()
+        self.boot()
+        self.booted = PlacedState(whole_of(self.program.save()))
+        self.begun = recording.next_begun()
+
+    def boot(self) -> None:
+        """Has a program boot the longer directory, or says why it refuses that."""
         self.program = Program(self.machines, "--terminals", "--save")
         try:
             self.program.do(b"")
@@ -72,15 +82,15 @@ class Turn:
             raise Failure(FILE_FAILED, "the program takes no script part by part") from None
         except Failure as failure:
             raise Failure(failure.status, self.why(failure)) from None
-        self.booted = PlacedState(whole_of(self.program.save()))
-        self.begun = engine.recording.next_begun()
+        finally:
+            os.unlink(self.machines.before[-1])
 
     def longer_machines(self) -> Machines:
         """The machines of the longer directory."""
         before = self.engine.machines
-        # what programs read is what was compared, whoever edits the file
+        # what the program reads is what was compared, whoever edits the file
         copy = os.path.join(self.checkpoint.folder, "longer")
-        write_whole(copy, self.longer)
+        write_whole(copy, self.now)
         made = of_directory(copy, before.before[:-1], before.volumes)
         made.path = before.program()
         if before.has_room_for_all:
@@ -111,6 +121,8 @@ class Turn:
             data = grown(state, self.booted)
             if len(data) > MOST_BYTES:
                 raise Failure(REFUSED, f"the state would have more than {MOST_BYTES} bytes")
+            if (free := engine.recording.free()) < len(data) + LITTLE_FREE:
+                raise Failure(REFUSED, f"the disk has {size_text(free)} free")
             self.program.restore(len(data), [data])
             judge(self.program, PlacedState(data), state, self.booted)
             aside = self.put(SavedState([data]), notes)
@@ -162,9 +174,7 @@ class Turn:
         self.checkpoint.undo_turn(self.engine.recording)
 
 
-def judge(
-    program: Program, made: PlacedState, state: PlacedState, booted: PlacedState
-) -> None:
+def judge(program: Program, made: PlacedState, state: PlacedState, booted: PlacedState) -> None:
     """Refuses a program that has not, by its own answer, each user of a state as he was, and each further one as after a boot."""
     for number in range(len(made.users.starts)):
         of = state if number < len(state.users.starts) else booted

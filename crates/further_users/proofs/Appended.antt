@@ -10,7 +10,8 @@ use Rattle.machine_panel.specs.Machine.{Machine}
 use Rattle.cp_core.specs.Saved.{IsOneBySaved, IsSaved, SavedSystem, system_bytes, user_of, view_of}
 use Rattle.cp_core.specs.System.{SystemView, users_of}
 use Rattle.cp_core.specs.UserMachines.{UserParts, user_with}
-use Rattle.further_users.specs.Longer.{HasFurtherUsers, HasStorages, LongerStatesKeepUsers, devices_in, longer, machine_in}
+use Rattle.further_users.specs.Longer.{HasFurtherUsers, HasStorages, LongerStatesKeepUsers}
+use Rattle.further_users.specs.Longer.{devices_in, longer, machine_in}
 
 -- the users of two lists are those of the one and then those of the other
 users_appended : (us more : List UserParts) (volumes : List VolumeFormat) (ss further : List (List ℕ))

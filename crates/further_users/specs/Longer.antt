@@ -1,5 +1,7 @@
 -- States of a longer directory: those of a system, with the users that a boot has more.
 use Rattle.std.specs.Prelude.{◌≡◌, ℕ, List, ◌++◌, length, map, drop}
+use Rattle.cp_dispatch.specs.Policy.{Lines}
+use Rattle.cp_dispatch.specs.Saved.{lines_bytes}
 use Rattle.cp_frames.specs.Layout.{FrameSupply}
 use Rattle.machine_devices.specs.Equipped.{Equipped}
 use Rattle.machine_devices.specs.Devices.{DevicesValue}
@@ -55,3 +57,9 @@ LongerStatesKeepUsers = (one booted made : SystemView) (supply : FrameSupply)
     → HasStorages is.parts → HasStorages boot.parts
     → IsSaved made (system_bytes (longer (length one.users) is.parts boot.parts supply))
     → HasFurtherUsers one booted made
+
+-- queues that are saved as others, but for how many users there may be, are those others
+abbrev pub LongerStatesKeepTurns : Type 0
+LongerStatesKeepTurns = (one made : Lines) (count : ℕ)
+    → lines_bytes made ≡ lines_bytes (record one { most_users = count })
+    → made ≡ record one { most_users = count }

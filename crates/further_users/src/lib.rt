@@ -10,4 +10,4 @@
 
 mod laws;
 
-pub use laws::further_users_change_nobody;
+pub use laws::{further_users_change_nobody, further_users_take_no_turn};
