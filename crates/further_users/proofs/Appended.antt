@@ -18,8 +18,8 @@ users_appended : (us more : List UserParts) (volumes : List VolumeFormat) (ss fu
     → length us ≡ length ss
     → users_of (us ++ more) volumes (ss ++ further) ≡ users_of us volumes ss ++ users_of more volumes further
 users_appended [] more volumes [] further same = refl
-users_appended [] more volumes (s ∷ ss) further same = absurd (cc)
-users_appended (u ∷ us) more volumes [] further same = absurd (cc)
+users_appended [] more volumes (s ∷ ss) further same = absurd (omega (arith, same))
+users_appended (u ∷ us) more volumes [] further same = absurd (omega (arith, same))
 users_appended (u ∷ us) more volumes (s ∷ ss) further same =
     ap (λ (es : List Equipped). user_with u volumes s ∷ es)
     (users_appended us more volumes ss further (omega (arith, same)))
@@ -28,7 +28,7 @@ users_appended (u ∷ us) more volumes (s ∷ ss) further same =
 length_users : (us : List UserParts) (volumes : List VolumeFormat) (ss : List (List ℕ)) → length us ≡ length ss
     → length (users_of us volumes ss) ≡ length us
 length_users [] volumes ss same = refl
-length_users (u ∷ us) volumes [] same = absurd (cc)
+length_users (u ∷ us) volumes [] same = absurd (omega (arith, same))
 length_users (u ∷ us) volumes (s ∷ ss) same =
     ap (λ (n : ℕ). suc n) (length_users us volumes ss (omega (arith, same)))
 
