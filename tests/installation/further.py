@@ -5,6 +5,7 @@ from __future__ import annotations
 
 from collections.abc import Callable, Iterator
 import asyncio
+import itertools
 import os
 import shutil
 import signal
@@ -41,6 +42,9 @@ from tests.lib.sites import (
 )
 
 Check = Callable[..., None]
+
+# of people who come back
+NUMBERS = itertools.count(1)
 
 DISK = "MDISK 191 3330 0 1 V1 W\n"
 CAROL = f"USER CAROL NEWEST 64K\n{DEVICES}{DISK}"
@@ -197,11 +201,20 @@ PEOPLE = (("ALICE", "WONDER"), ("BOB", "BUILDER"), ("OPER", "SECRET"))
 KNOWN = (BANNER, "LOGON OK", "STORED", "GPR ", "000200 12345678", "SENT")
 
 
+async def back(site: Site, name: str = "ALICE", password: str = "WONDER") -> object:
+    """Somebody who has come back, and has seen the lines of before."""
+    one = await on(site, name, password)
+    value = next(NUMBERS)
+    one.type(f"STORE G9 {value:08X}")
+    await answered(one, "DISPLAY G9", f"GPR 9 = {value:08X}")
+    return one
+
+
 async def has_all(check: Check, site: Site, name: str) -> None:
     """All that was done is there."""
-    carol = await on(site, "CAROL", "NEWEST")
+    carol = await back(site, "CAROL", "NEWEST")
     await answered(carol, "DISPLAY 300", "000300 ABCDEF01 00000000 00000000 00000000")
-    alice = await on(site)
+    alice = await back(site)
     await answered(alice, "DISPLAY 200", "000200 12345678 00000000 00000000 00000000")
     check(name, "RECONNECTED" in alice.lines, *alice.lines)
     alice.go()
@@ -264,7 +277,7 @@ def try_disks(check: Check, site: Site) -> None:
     check("a minidisk is added", holds, done.stdout, *site.findings)
 
     async def looks() -> None:
-        alice = await on(site)
+        alice = await back(site)
         alice.type(*TESTS_DISK)
         await alice.until("STOPPED DISABLED WAIT")
         found = await answered(alice, "DISPLAY G2", "GPR 2 = 40000106")
@@ -346,7 +359,7 @@ def try_wrong(check: Check, program: str, folder: str) -> None:
 
 async def does(site: Site, line: str, answer: str) -> None:
     """ALICE types a line that is answered so, and goes."""
-    alice = await on(site)
+    alice = await back(site)
     await answered(alice, line, answer)
     alice.go()
 
