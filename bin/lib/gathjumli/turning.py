@@ -57,7 +57,8 @@ class Turn:
         except BaseException:
             self.give_up()
             raise
-        await self.installation.desk.add(self.further())
+        if further := self.further():
+            await self.installation.desk.add(further)
         added = self.added.text()
         self.installation.notify(f"{added}; the recording of before is in {aside}")
         return added
