@@ -6,6 +6,25 @@
 //! longer directory restore that. What it restores is saved as these bytes, or is refused. So the
 //! law here says what it is: everybody of before with his machine, devices, minidisks and storage
 //! exactly as they were, and after them users as the boot has them.
+//!
+//! ```
+//! use cp_core::{Sizes, System};
+//! use cp_directory::read_directory;
+//! use further_users::further_users_change_nobody;
+//! use user_names::UserNo;
+//!
+//! let sizes = Sizes::new(16, 0).ok_or("too many frames")?;
+//! let directory = read_directory(alloc, b"USER A PW 8K\n")?;
+//! let longer = read_directory(alloc, b"USER A PW 8K\nUSER B PW 8K\n")?;
+//! let system = System::boot(alloc, directory, Vec::new(alloc), sizes)?;
+//! let booted = System::boot(alloc, longer, Vec::new(alloc), sizes)?;
+//! let mut before = Vec::new(alloc);
+//! system.save_user(UserNo::new(0), &mut before)?;
+//! let mut after = Vec::new(alloc);
+//! booted.save_user(UserNo::new(0), &mut after)?;
+//! assert!(rt; before.as_slice() == after.as_slice());
+//! further_users_change_nobody();
+//! ```
 #![tactic(auto)]
 
 mod laws;
