@@ -34,6 +34,7 @@ from tests.installation import (
     basics,
     faults,
     figures,
+    further,
     keeping,
     maps,
     operators,
@@ -1441,6 +1442,8 @@ def main() -> None:
         basics.try_all(check, repository, f"{folder.name}/sites", is_stand_in=False)
         try_over_programs(repository, folder.name)
         try_states(repository, f"{folder.name}/state commands")
+        command = f"{repository}/bin/installation"
+        further.try_further(check, command, PROGRAM, f"{folder.name}/further")
         sys.exit(totals.report())
     for test in chosen([word for word in sys.argv[1:] if word != "--record"]):
         work = tempfile.mkdtemp()

@@ -29,6 +29,15 @@ STEPS = {
     "the name is on the disk": "mark_state",
     "the mark is written": "marked",
 }
+# those of taking further users, of which the last one is after the other recording is in its place
+TURN_STEPS = (
+    "prepare_turn",
+    "write_state",
+    "beginning_with",
+    "forget_states",
+    "replace",
+    "go_on_with",
+)
 # of people who appear back
 NUMBERS = itertools.count(100)
 # what the stand-in refuses
@@ -80,6 +89,8 @@ def die_before(name: str) -> None:
         break_reading()
     elif name in END_STEPS.values():
         die_in_end(name)
+    elif name in TURN_STEPS:
+        die_in_turn(name)
 
 
 def die_in_end(name: str) -> None:
@@ -99,6 +110,21 @@ def die_in_end(name: str) -> None:
         checkpoints.sync_folder = lambda path: path.endswith("/recording") and die()
     else:
         setattr(checkpoints.Checkpoint, name, die)
+
+
+def die_in_turn(name: str) -> None:
+    """Has the command die where it calls a function of this name to take further users."""
+    from gathjumli import checkpoints, engine, stores, turning
+
+    places = {
+        "prepare_turn": checkpoints.Checkpoint,
+        "write_state": turning,
+        "beginning_with": turning,
+        "forget_states": checkpoints,
+        "replace": stores.FileStore,
+        "go_on_with": engine.Engine,
+    }
+    setattr(places[name], name, die)
 
 
 def break_reading() -> None:

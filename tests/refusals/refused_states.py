@@ -121,6 +121,15 @@ B: 001000 01000000 00000000 00000000 00000000
 > |09 ABCD
 > DONE
 """
+# a user more, who comes after that part, and what is answered to him
+FURTHER = b"USER C PW 16K\nCONSOLE 009 3215\n"
+COMES = b"LINE C LOGON\nLINE C DISPLAY 1000\n"
+COMES_ANSWER = b"""\
+C: LOGON OK
+C: 001000 00000000 00000000 00000000 00000000
+> ON C
+> DONE
+"""
 # what a transcript has of the part
 EVENTS, FILES = ANSWER.removeprefix(b"> DONE\n").removesuffix(b"> DONE\n").split(b"> ", 1)
 TRANSCRIPT = EVENTS + FILES.replace(b"> |", b"")

@@ -19,6 +19,7 @@ from concurrent.futures import ThreadPoolExecutor
 sys.dont_write_bytecode = True
 TOP = os.path.dirname(os.path.dirname(os.path.dirname(os.path.realpath(__file__))))
 sys.path[:0] = [TOP, f"{TOP}/bin/lib"]
+from gathjumli.state_growth import PlacedState, grown
 from tests.lib import desk
 from tests.lib.counting import Counts
 from tests.lib.files import read, write
@@ -471,19 +472,19 @@ def desk_fault(case: Case, ended: Ended) -> str | None:
 # --- states ---
 
 
-def saved_after(host: Host, requests: bytes) -> tuple[bytes, bytes]:
+def saved_after(host: Host, requests: bytes, further: bytes = b"") -> tuple[bytes, bytes]:
     """What a session that nothing interrupts answers to requests of which the last is SAVE or VIEW, and the state in it."""
-    ended = host.run(follow_case("", requests, b""))
+    ended = host.run(follow_case("", requests, b"", further))
     assert ended.status == 0, ended.findings()
     place = ended.out.index(b"> STATE ")
     size, _, state = ended.out[place:].partition(b"\n")
     return ended.out[place:], state[: int(size.split()[2])]
 
 
-def follow_case(name: str, requests: bytes, findings: bytes) -> Case:
-    """Users over their volumes who are given requests."""
+def follow_case(name: str, requests: bytes, findings: bytes, further: bytes = b"") -> Case:
+    """Users over their volumes who are given requests; further: more lines of their directory."""
     images = {serial: image_of(text) for serial, text in refused_states.VOLUMES.items()}
-    files = {"directory": refused_states.DIRECTORY} | images
+    files = {"directory": refused_states.DIRECTORY + further} | images
     words = [*refused_states.SIZES, "--follow", "directory", *images]
     return Case(name, "vm370", words, files, findings, given=requests + b"END\n")
 
@@ -516,8 +517,18 @@ def state_cases(host: Host) -> list[Case]:
         follow_case(
             "a state, and that of a user", requests + b"VIEW 1\n", refused_states.ANSWER + viewed
         ),
+        longer_case(host, state, after),
         map_of_state(host, state),
     ]
+
+
+def longer_case(host: Host, state: bytes, after: bytes) -> Case:
+    """A part from a state with a further user, who comes then."""
+    _, booted = saved_after(host, b"SAVE\n", refused_states.FURTHER)
+    longer = grown(PlacedState(state), PlacedState(booted))
+    requests = refused_states.begun_from(longer) + after + refused_states.part(refused_states.COMES)
+    findings = refused_states.ANSWER + refused_states.COMES_ANSWER
+    return follow_case("a state with a user more", requests, findings, refused_states.FURTHER)
 
 
 def spread(total: int, most: int) -> list[tuple[int, int]]:

@@ -25,13 +25,15 @@ from gathjumli.recording import (
 )
 from gathjumli.state_files import is_state
 from gathjumli.stores import FileStore
-from gathjumli.strays import forget_states, state_paths
+from gathjumli.strays import forget_states, noted_in, state_paths
 
 DIRECTORY = "directory"
 # in the folder of a session: the states with which it began and ended
 FIRST_STATE = "begin"
 LAST_STATE = "end"
 ENDING = ".ending-"
+# in the notes of a state: the session from which another one goes on with it, while people are on
+TURNED = "turned"
 
 
 class Checkpoint:
@@ -86,7 +88,16 @@ class Checkpoint:
         self.folder = tempfile.mkdtemp(prefix=f"{name}{ENDING}", dir=where)
         for path, volume in zip(self.paths(), self.volumes):
             os.symlink(os.path.realpath(volume), path)
+        self.keep_directory(without_passwords(read_whole(self.directory)))
         return self.paths()
+
+    def stated(self) -> str:
+        """The file of the directory as it was when the session began, without passwords: whoever edits the other one changes
+        nothing before a reload."""
+        return os.path.join(self.folder, DIRECTORY)
+
+    def keep_directory(self, data: bytes) -> None:
+        write_whole(self.stated(), data, is_settled=True)
 
     def forget(self) -> None:
         """Removes the folders of this start and of those before it."""
@@ -99,21 +110,16 @@ class Checkpoint:
             os.unlink(path)
             with open(path, "xb"):
                 pass
-        write_whole(
-            os.path.join(self.folder, DIRECTORY),
-            without_passwords(read_whole(self.directory)),
-            is_settled=True,
-        )
 
     def saved_mark(self, digits: str) -> Any:
         """The line of the recording that says that all is saved, once it is on the disk: in which folder, and the sums; digits: the
         sum of the state with which the next session begins, if any."""
         for path in self.paths():
             sync_file(path)
-        sync_folder(os.path.join(self.folder, DIRECTORY))
+        sync_folder(self.stated())
         for path in [
             *self.paths(),
-            os.path.join(self.folder, DIRECTORY),
+            self.stated(),
             *[self.state()] * bool(digits),
         ]:
             self.store.keep(path)
@@ -138,7 +144,7 @@ class Checkpoint:
                 os.path.join(aside, os.path.basename(path)),
                 notify,
             )
-        copy_whole(os.path.join(self.folder, DIRECTORY), os.path.join(aside, DIRECTORY))
+        copy_whole(self.stated(), os.path.join(aside, DIRECTORY))
         self.keep_beginning(recording, aside)
         if digits:
             self.put_next(recording, aside, digits)
@@ -155,6 +161,55 @@ class Checkpoint:
         mark, path = recording.beginning, self.beginning()
         if mark and is_state(path, mark.sum):
             keep(path, os.path.join(aside, FIRST_STATE))
+
+    # --- a session that goes over into the next one while people are on ---
+
+    def prepare_turn(self, recording: Recording) -> None:
+        """Has in the folder of a session what a replay of it will need, while the session goes on."""
+        aside = recording.aside()
+        os.makedirs(aside, 0o700, exist_ok=True)
+        for path, volume in zip(self.paths(), self.volumes):
+            keep(volume, os.path.join(aside, os.path.basename(path)))
+        copy_whole(self.stated(), os.path.join(aside, DIRECTORY))
+        self.keep_beginning(recording, aside)
+        for path in (os.path.join(aside, DIRECTORY), aside):
+            sync_folder(path)
+
+    def turn(
+        self,
+        recording: Recording,
+        directory: bytes,
+        write: Callable[[str], str],
+        text_with: Callable[[str], bytes],
+    ) -> str:
+        """Sets a recording aside, and has another one in its place that goes on from a state over another directory; the folder of the
+        first one. The file of the state is written first, its sum is in the text, and the last step makes it count.
+        """
+        aside, following = recording.aside(), os.path.join(self.folder, "recording")
+        digits = write(self.beginning())
+        write_whole(following, text_with(digits), is_settled=True)
+        os.chmod(following, 0o600)
+        keep(self.record, os.path.join(aside, "recording"))
+        forget_states(self.record)
+        sync_folder(os.path.join(aside, "recording"))
+        recording.turn(following)
+        sync_folder(self.record)
+        self.keep_directory(directory)
+        self.store.turn(aside, self.volumes)
+        return aside
+
+    def undo_turn(self, recording: Recording) -> None:
+        """Takes back what there is of a turn that has not come to its last step: the session goes on as if it had not been tried."""
+        if not recording.begun or not os.path.isdir(recording.aside()):
+            return
+        path, mark, aside = self.beginning(), recording.beginning, recording.aside()
+        if os.path.isfile(path) and turned_from(path) == recording.name():
+            kept = os.path.join(aside, FIRST_STATE)
+            if mark and is_state(kept, mark.sum):
+                copy_whole(kept, path)
+            elif not mark:
+                os.unlink(path)
+        shutil.rmtree(aside, ignore_errors=True)
 
     def leave_beginning(self, aside: str) -> None:
         """Has the state with which the session began in the session's folder only: the next one begins without any."""
@@ -223,6 +278,11 @@ class Checkpoint:
                 f"{self.folder} has no images that were saved at the end of {self.record}",
             )
         return digits
+
+
+def turned_from(path: str) -> str:
+    """The session from which another one was to go on with the state in a file, or nothing."""
+    return noted_in(path, TURNED)
 
 
 def put_back(copy: str, volume: str) -> str:

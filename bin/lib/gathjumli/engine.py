@@ -80,6 +80,8 @@ class Engine:
         self.thread = concurrent.futures.ThreadPoolExecutor(1)
         # parts that are to be done, each with the future that says when it is
         self.waiting = collections.deque()
+        # what is to be done between parts: that, what follows in the loop, and the future that says that it is done
+        self.resting = collections.deque()
         # when somebody was shown something last, and how long lines went before turns
         self.shown = self.lines_seconds = 0.0
         # when the program was last asked what users hold, and how many parts it had done then
@@ -129,6 +131,23 @@ class Engine:
         if part.typed:
             self.waits.add(time.monotonic() - begun)
 
+    async def at_rest(self, work: Callable[[dict], Any], then: Callable[[Any], None]) -> Any:
+        """Has something done between two parts, while everybody waits, and then something with what it returns. It gets what is noted
+        with a state."""
+        done = asyncio.get_running_loop().create_future()
+        self.resting.append((work, then, done))
+        self.woken.set()
+        return await done
+
+    async def rest(self, work: Callable, then: Callable, done: asyncio.Future) -> None:
+        try:
+            result = await self.loop.run_in_executor(self.thread, work, self.notes())
+        except (Failure, OSError) as reason:
+            done.set_exception(reason)
+            return
+        then(result)
+        done.set_result(result)
+
     def note(self, mark: bytes) -> None:
         """Has the recording get a comment line; any thread may ask for that."""
         self.marks.append(mark)
@@ -143,13 +162,15 @@ class Engine:
     async def work(self) -> None:
         """Gives parts until it is stopped."""
         while not self.is_stopping:
-            if not self.waiting and not self.marks and not self.pace.is_busy:
+            if not self.waiting and not self.marks and not self.resting and not self.pace.is_busy:
                 self.woken.clear()
                 await self.woken.wait()
             await self.go_on()
+            while self.resting and not self.is_stopping:
+                await self.rest(*self.resting.popleft())
             if self.states.is_due(self.seconds_to_repeat()) and not self.is_stopping:
                 await self.loop.run_in_executor(self.thread, self.save_state, self.notes())
-        for _, done in self.waiting:
+        for *_, done in [*self.waiting, *self.resting]:
             done.cancel()
 
     async def go_on(self) -> None:
@@ -295,6 +316,14 @@ class Engine:
         """Saves the state with which the next session goes on; its sum. What was printed stays with this session."""
         notes = self.notes() | {"printouts": []}
         return self.states.save_last(self.program, path, notes)
+
+    def go_on_with(self, program: Program) -> None:
+        """Has another program, which is where this one is, go on in its place."""
+        self.program.close()
+        self.program = program
+        self.starts += 1
+        # what was done is in the state from which the recording begins
+        self.entries = 0
 
     def restart(self) -> None:
         """Has another program do the recording: all that anybody was shown is in it."""

@@ -67,6 +67,9 @@ class SavedState(NamedTuple):
     def size(self) -> int:
         return sum(map(len, self.pieces))
 
+    def whole(self) -> bytes:
+        return b"".join(self.pieces)
+
 
 class Answers:
     """Cuts what a program writes into answers as it arrives. A file's entries stay as they are, since a listing may have millions
@@ -244,18 +247,25 @@ class Program:
 
     def save(self) -> SavedState | None:
         """The state where all that was given has led, or None if the program has none."""
+        return self.saved(b"SAVE\n")
+
+    def save_user(self, number: int) -> SavedState | None:
+        """What that state has of the user of this number, with the frames and his storage."""
+        return self.saved(b"VIEW %d\n" % number)
+
+    def saved(self, request: bytes) -> SavedState | None:
         while self.awaited:
             self.answer()
-        self.ask_for_state()
+        self.ask_for_state(request)
         try:
             return self.answer()
         except ScriptRefused:
             return None
 
-    def ask_for_state(self) -> None:
+    def ask_for_state(self, request: bytes = b"SAVE\n") -> None:
         """Asks for the state where all that was given will have led; the answer is awaited later."""
         self.expect()
-        self.write(b"SAVE\n")
+        self.write(request)
 
     def held(self) -> dict[str, int]:
         """How many entries the open files of each user have."""

@@ -31,6 +31,11 @@ class Passwords:
         """Has the same users have other passwords."""
         self.sums = {name: self.sum_of(passwords[name]) for name in self.names}
 
+    def add(self, passwords: dict[str, str]) -> None:
+        """Has further users, with these passwords."""
+        self.names += passwords
+        self.sums |= {name: self.sum_of(password) for name, password in passwords.items()}
+
     def are_right(self, name: str, password: str) -> Any:
         """Whether this is the password of the user of this name; of a name that is not there it takes as long."""
         return (
@@ -51,6 +56,10 @@ class PasswordsFile:
         self.names = list(names)
         self.other = (os.urandom(16), os.urandom(32))
         self.entries = read_entries(path)
+
+    def add(self, passwords: dict[str, str]) -> None:
+        """Has further users, whose passwords the file has."""
+        self.names += passwords
 
     def read(self) -> str:
         """Reads the file; why it cannot be read, or nothing."""

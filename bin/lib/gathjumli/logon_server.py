@@ -42,6 +42,8 @@ MOST_STRANGERS = 80
 USER_BYTES = 512
 # lines that the desk is given at once: what they and their answers take fits a pipe
 MOST_PENDING = 16
+# of a line that is not whole so many bytes are kept for a new program of the desk, which are more than one takes
+LONGEST_KEPT = 2048
 # what waits for a reader: he is closed over so many bytes
 MOST_UNREAD = 1 << 20
 # of what waits the host takes so many bytes; the rest waits here, where it is counted
@@ -52,6 +54,9 @@ LITTLE_UNREAD = 1 << 16
 # how often the desk is given the time while somebody is about to log on
 TICK = 0.05
 LOGON = b"LOGON"
+# a terminal is to show what is typed
+SHOWN_AGAIN = b"\xff\xfc\x01"
+HIDDEN = b"\xff\xfb\x01"
 GOES_DOWN = b"GATHJUMLI GOES DOWN\r\n"
 CLOSED = b"LOGON IS CLOSED\r\n"
 REFUSED_FOR_NOW = b"REFUSED: TOO MANY WRONG PASSWORDS FROM YOUR ADDRESS, COME BACK LATER\r\n"
@@ -64,6 +69,8 @@ class Connection:
         self.address = address
         self.place = None
         self.user = None
+        # what came since the end of the last line that came whole, and how that line ended
+        self.typed, self.line_end = b"", b""
         # when lines are shown again, the minute that was shown last
         self.minute = ""
         self.may_send = asyncio.Event()
@@ -71,6 +78,15 @@ class Connection:
         self.is_locked = False
         # how much it was answered before anybody logged on there
         self.answers = 0
+        # whether its terminal does not show what is typed
+        self.is_hidden = False
+
+    def note(self, data: bytes) -> None:
+        """Keeps what a new program of the desk has to know of the line that is not whole."""
+        typed = self.typed + data
+        end = max(typed.rfind(b"\r"), typed.rfind(b"\n")) + 1
+        self.line_end = typed[end - 1 : end] if end else self.line_end
+        self.typed = typed[end:][:LONGEST_KEPT]
 
     def send(self, data: Any) -> None:
         """Gives it bytes."""
@@ -179,6 +195,9 @@ class LogonServer:
         self.share = Share()
         self.pending = []
         self.places = {}
+        # the connection that a new program is told of, and what came meanwhile
+        self.moved = None
+        self.held = None
         self.serving = set()
         self.tasks = set()
         # the task of each user's last line, by his number
@@ -194,6 +213,14 @@ class LogonServer:
 
     def open(self) -> None:
         """Begins the program, and gives it the users, and what is known of them since a replay."""
+        self.begin()
+        for number, user in enumerate(self.people):
+            user.terminal = Terminal(self, number)
+            self.tell_of(user)
+        self.flush()
+
+    def begin(self) -> None:
+        """Begins the program, which gets the names of the users."""
         self.program = subprocess.Popen(
             [self.path, "logondesk"],
             stdin=subprocess.PIPE,
@@ -204,12 +231,63 @@ class LogonServer:
             self.ask("USER", encoded(user.name))
         self.room = MOST_STRANGERS + 1 + len(self.people)
         self.ask("ROOM", self.room)
-        for number, user in enumerate(self.people):
-            user.terminal = Terminal(self, number)
-            user.terminal.turn(user.is_on, user.is_running)
-            for minute, text in user.lines:
-                user.terminal.keep(text, minute)
+
+    def tell_of(self, user: Any) -> None:
+        """Has the program know a user's state, and his terminal the lines that he sees when he comes back."""
+        user.terminal.turn(user.is_on, user.is_running)
+        user.terminal.lines.clear()
+        for minute, text in user.lines:
+            user.terminal.keep(text, minute)
+
+    # --- further users ---
+
+    async def add(self, users: list) -> None:
+        """Has another program be the desk, which knows these users too. Connections stay as they are there."""
+        self.held = []
+        while busy := [task for task in self.giving.values() if not task.done()]:
+            await asyncio.wait(busy, return_when=asyncio.FIRST_COMPLETED)
         self.flush()
+        before = self.program
+        for user in users:
+            user.terminal = Terminal(self, len(self.people))
+            self.people.append(user)
+        try:
+            self.begin()
+        except OSError:
+            self.has_failed.set()
+            raise
+        for user in self.people:
+            self.tell_of(user)
+        # of too many strangers one goes, and nobody else
+        for connection in sorted(self.places.values(), key=lambda one: one.user is None):
+            self.move(connection)
+        before.kill()
+        before.wait()
+        for stream in (before.stdin, before.stdout):
+            with contextlib.suppress(OSError):
+                stream.close()
+        held, self.held = self.held, None
+        for connection, data in held:
+            self.receive(connection, data)
+
+    def move(self, connection: Any) -> None:
+        """Tells a new program of a connection: its user is on there, or a name is asked for again."""
+        user = connection.user
+        if not user:
+            connection.typed = b""
+            if connection.is_hidden:
+                connection.send(SHOWN_AGAIN)
+            self.ask("OPEN", connection.place, self.origin(connection.address))
+            return
+        # he has given his password to the program before, and has seen all that is shown again here
+        self.moved = connection
+        place, line = connection.place, b"LOGON %s X" % user.name.encode()
+        end = b"\r" if connection.line_end == b"\r" else b"\r\n"
+        self.ask("OPEN", place, self.origin(connection.address))
+        self.ask("CAME", place, (line + end + connection.typed).hex().upper())
+        # the answer to what it has asked then
+        self.flush()
+        self.moved = None
 
     # --- the lines that pass (crates/logon_desk_cli/src: frame.rt, printing.rt) ---
 
@@ -270,11 +348,19 @@ class LogonServer:
             getattr(self, f"obey_{word.lower()}")(connection, *words)
 
     def obey_give(self, connection: Any, data: Any) -> None:
+        if connection is self.moved:
+            return
+        text = read_bytes(data)
+        connection.is_hidden = (
+            text.endswith(HIDDEN) or connection.is_hidden and SHOWN_AGAIN not in text
+        )
         connection.answers += not connection.user
-        connection.send(read_bytes(data))
+        connection.send(text)
 
     def obey_back(self, connection: Any, minute: str, text: str) -> None:
         """A line that he has seen before, and its minute where that is another one."""
+        if connection is self.moved:
+            return
         if minute != connection.minute:
             connection.send(b"-- %s UTC\r\n" % read_bytes(minute))
         connection.minute = minute
@@ -284,6 +370,9 @@ class LogonServer:
         connection.may_send.set()
 
     def obey_asks(self, connection: Any, name: Any, password: Any) -> None:
+        if connection is self.moved:
+            self.pending.append(self.line("SAYS", connection.place, 1, name, password))
+            return
         self.start(self.judge(connection, name, password))
 
     def obey_ends(self, connection: Any) -> None:
@@ -298,6 +387,8 @@ class LogonServer:
             self.notify(f"{user.name} {'leaves his terminal' if user.is_on else 'is logged off'}")
 
     def obey_note(self, connection: Any, word: str, number: Any) -> None:
+        if connection is self.moved:
+            return
         user = None if number == "-" else self.people[int(number, 16)]
         if word == "FAIL":
             summed = self.locked_out if connection.is_locked else self.wrong
@@ -392,8 +483,13 @@ class LogonServer:
 
     def receive(self, connection: Any, data: bytes) -> None:
         """Bytes have come at a connection."""
-        if connection.place is not None:
-            connection.may_send.clear()
+        if connection.place is None:
+            return
+        connection.may_send.clear()
+        if self.held is not None:
+            self.held.append((connection, data))
+        else:
+            connection.note(data)
             self.ask("CAME", connection.place, data.hex().upper())
 
     def is_crowded(self) -> bool:

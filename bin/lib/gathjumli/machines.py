@@ -46,7 +46,11 @@ class Machines:
         self.users = users
         self.devices = devices
         self.folder = tempfile.TemporaryDirectory(prefix="people-")
+        # the directory that followed programs read, if it is not that of `before`, which may be edited
+        self.followed = None
         self.is_built = False
+        # whether frames and slots are as many as pages
+        self.has_room_for_all = False
         # the transcript of an empty script
         self.of_nothing = b""
         self.path = None
@@ -63,7 +67,7 @@ class Machines:
 
     def follow_words(self, *options: str) -> list:
         """Those for a script that the program is given part by part, with more options."""
-        first, before = self.before[-1], self.before[:-1]
+        first, before = self.followed or self.before[-1], self.before[:-1]
         return [self.name, *options, *before, "--follow", "--", first, *self.volumes]
 
     def reason(self, script: Any, line: Any) -> list:

@@ -42,7 +42,8 @@ message TEXT       a line for each terminal; message USER TEXT for one user
 logmsg TEXT        a line for everybody who logs on; logmsg alone shows it, logmsg off ends it
 logon closed       nobody logs on any more, but who is on may come back; logon open ends that
 force USER         logs a user off
-reload             reads journal, certificate, passwords and rules again, as a SIGHUP does
+reload             reads journal, certificate, directory, passwords and rules again, as a SIGHUP
+                   does; of the directory, users at its end and minidisks that it adds
 backup /FOLDER     copies all that the session needs to go on elsewhere into a new folder
 suspend            ends this command; the next start goes on from here
 end                if all printouts are written, ends the session: volumes are saved, the
@@ -66,14 +67,15 @@ class Operator:
         self.backup = Backup(installation)
         self.care = SpoolCare(self.engine.printouts, self.engine.users)
         # commands whose answer may take long
-        self.long = {"frames": self.find_frames, "backup": self.make_backup}
+        self.long = {"frames": self.find_frames, "backup": self.make_backup, "reload": self.reload}
+        self.reloading = set()
         self.notify = installation.notify
         self.ending = []
         # if the time of the end is written down, so that the next start knows it
         self.ending_path = f"{installation.options['record']}.end-at"
         self.commands = {"status": self.status, "users": self.users, "spool": self.care.list, "message": self.message,
                          "logmsg": self.set_log_message, "logon": self.set_logon, "force": self.force, "suspend": self.suspend, "end": self.end,
-                         "reload": self.reload, "metrics": self.metrics, "help": self.help, "hold": self.care.hold, "release": self.care.release,
+                         "metrics": self.metrics, "help": self.help, "hold": self.care.hold, "release": self.care.release,
                          "purge": self.care.purge, "reprint": self.care.reprint}  # fmt: skip
 
     def read(self, loop: Any, lines: list) -> None:
@@ -259,12 +261,21 @@ class Operator:
             raise NotDone(f"{user.name} is not on")
         self.installation.force(user, "by the operator")
 
-    def reload(self, rest: str, reply: Any) -> Any:
-        troubles = self.installation.reload.do()
+    def reload(self, rest: str, reply: Any, end: Any, is_there: Any = None) -> None:
+        """Reads all again, for one operator at a time."""
+        if self.installation.reload.is_busy:
+            reply("a reload is under way")
+            end(NOT_DONE)
+            return
+        self.reloading.add(task := asyncio.ensure_future(self.read_again(reply, end)))
+        task.add_done_callback(self.reloading.discard)
+
+    async def read_again(self, reply: Any, end: Any) -> None:
+        troubles = await self.installation.reload.do()
         if reply != self.notify:
             for text in troubles or [ALL_READ]:
                 reply(text)
-        return NOT_DONE if troubles else DONE
+        end(NOT_DONE if troubles else DONE)
 
     def suspend(self, rest: str, reply: Any) -> Any:
         self.installation.suspend()

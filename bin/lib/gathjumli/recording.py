@@ -23,6 +23,8 @@ SAVED = b"* SAVED "
 SAVED_KEEPING = b"* KEPT "
 DECK_READ = b"* DECK "
 STATE = b"* STATE "
+# what the directory of this session has more than that of the one before, from whose state it goes on
+ADDED = b"* ADDED "
 # states that are kept: the last one, and the one before where the last cannot be read
 MOST_STATES = 2
 # the name of the state with which a session goes on from the one before
@@ -503,16 +505,31 @@ class Recording:
 
     def succeeding(self, sums: list[str], digits: str) -> bytes:
         """The recording of a session that goes on from the state of this sum, with volumes of these sums."""
+        base = [*self.base[:4], *self.volumes_with(sums)]
+        return beginning_with(base, self.next_begun(), digits)
+
+    def next_begun(self) -> bytes:
+        """The line that says when the next session begins: sessions are named by the second."""
         while (begun := begun_now()) == self.begun:
-            # sessions are named by the second
             time.sleep(0.1)
-        lines = [*self.base[:4], *self.volumes_with(sums), begun[:-1]]
-        lines.append(STATE + f"{BEGINNING} {digits}".encode())
-        text = b"".join(line + b"\n" for line in lines)
-        return text + stamp_of(sum_digits(hashlib.sha256(text)))
+        return begun
+
+    def turn(self, path: str) -> None:
+        """Goes on with the recording at a path, which is put in the place of this one."""
+        self.store.replace(path)
+        self.turns = 0
+        self.reset()
+        self.look()
 
     def close(self) -> None:
         self.store.close()
+
+
+def beginning_with(base: list[bytes], begun: bytes, digits: str, *comments: bytes) -> bytes:
+    """The recording of a session that goes on from the state of this sum: what it is of, when it begins, and comments."""
+    mark = STATE + f"{BEGINNING} {digits}".encode()
+    text = b"".join(line + b"\n" for line in [*base, begun[:-1], mark, *comments])
+    return text + stamp_of(sum_digits(hashlib.sha256(text)))
 
 
 def stamp_of(digits: bytes) -> bytes:

@@ -1,5 +1,5 @@
-"""What an installation reads again while it goes on: the journal's file, the certificate, the passwords and the rules. What cannot be
-read stays as it was."""
+"""What an installation reads again while it goes on: the journal's file, the certificate, the directory, the passwords and the rules.
+What cannot be read stays as it was."""
 from __future__ import annotations
 
 from collections.abc import Callable
@@ -12,8 +12,9 @@ from gathjumli.logon import Passwords
 from gathjumli.recording import read_whole, without_passwords
 from gathjumli.rules import Rules, read_rules
 from gathjumli.tls import load_certificate
+from gathjumli.turning import Turn
 
-ALL_READ = "journal, certificate, passwords and rules are read again"
+ALL_READ = "journal, certificate, directory, passwords and rules are read again"
 
 
 def warn_of_readers(path: str, what: str, notify: Callable[[str], None]) -> None:
@@ -37,21 +38,22 @@ class Reload:
         self.read_users = read_users
         self.stated = without_passwords(read_whole(installation.directory))
         self.path = f"{installation.options['record']}.rules"
+        # whether a reload is under way
+        self.is_busy = False
         # as the options have them
         self.limits = installation.limits
         self.take_rules()
 
     def all(self) -> list[str]:
-        """Reads all again, and has the store keep it; what could not be read."""
+        """Reads all again but what a directory adds, and has the store keep it; what could not be read."""
         steps = {"journal": self.installation.journal.reopen, "certificate": self.take_certificate,
                  "passwords": self.take_passwords, "rules": self.take_rules}  # fmt: skip
         troubles = []
-        with self.installation.options["manager"].told_of_reload():
-            for what, step in steps.items():
-                try:
-                    step()
-                except (Failure, OSError) as reason:
-                    troubles.append(f"{what} not read again: {named_reason(reason)}")
+        for what, step in steps.items():
+            try:
+                step()
+            except (Failure, OSError) as reason:
+                troubles.append(f"{what} not read again: {named_reason(reason)}")
         for path in (
             self.path,
             self.installation.directory,
@@ -61,12 +63,33 @@ class Reload:
                 self.installation.store.keep_soon(path)
         return troubles
 
-    def do(self) -> list[str]:
+    async def do(self) -> list[str]:
         """Reads all again, and has the journal say how that ended; what could not be read."""
-        troubles = self.all()
+        self.is_busy = True
+        try:
+            with self.installation.options["manager"].told_of_reload():
+                troubles = [*await self.take_directory(), *self.all()]
+        finally:
+            self.is_busy = False
         for text in troubles or [ALL_READ]:
             self.installation.notify(text)
         return troubles
+
+    async def take_directory(self) -> list[str]:
+        """Takes the users and minidisks that the directory adds; why it does not."""
+        try:
+            if not self.is_changed():
+                return []
+            turn = Turn(self.installation, self.stated)
+            await turn.take()
+        except (Failure, OSError) as reason:
+            return [f"directory not read again: {named_reason(reason)}"]
+        self.stated = turn.longer
+        return []
+
+    def is_changed(self) -> bool:
+        """Whether the directory has other changes than passwords."""
+        return without_passwords(read_whole(self.installation.directory)) != self.stated
 
     def take_certificate(self) -> None:
         options = self.installation.options
@@ -79,8 +102,8 @@ class Reload:
             if trouble := self.passwords.read():
                 raise Failure(REFUSED, trouble)
             return
-        directory = self.installation.directory
-        if without_passwords(read_whole(directory)) != self.stated:
+        if self.is_changed():
+            directory = self.installation.directory
             raise Failure(REFUSED, f"{directory} has other changes than passwords")
         self.passwords.take(self.read_users())
 

@@ -148,6 +148,11 @@ class Printouts:
             if not self.is_closing:
                 self.changed.wait(SECONDS_TO_TRY_AGAIN)
 
+    def turn(self, folder: str | None, noted: set[str]) -> None:
+        """Has what is closed from now on be that of another session; all files of this one are written."""
+        with self.changed:
+            self.folder, self.noted, self.all = folder, noted, []
+
     def unwritten(self) -> list:
         """The names of the files that are not written."""
         return [item.name for item in self.all if item.state in UNWRITTEN]

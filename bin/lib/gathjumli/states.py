@@ -76,6 +76,12 @@ class States:
         if state:
             self.reading, self.last = reading, LastState(state.size, 0.0)
 
+    def has_turned(self, seconds: float, state: LastState) -> None:
+        """Another recording goes on from a state that was saved just now."""
+        self.on_way = []
+        self.at, self.due, self.reading = seconds, seconds + self.every, state.waited
+        self.last = state
+
     def is_due(self, seconds: float) -> bool:
         is_free = not self.recording.store.is_keeping
         return not self.is_off and self.slow < SLOW_ONES and seconds >= self.due and is_free

@@ -33,6 +33,8 @@ class FileStore:
     is_keeping = False
     # whether the session is followed from another host, which still adds to the recording
     follows = False
+    # whether another recording can be put in the place of this one while people are on
+    is_replaceable = True
 
     def __init__(self, record: str) -> None:
         self.record = record
@@ -56,13 +58,22 @@ class FileStore:
     def open(self) -> None:
         """Opens the recording for appends, and refuses if another command has it open. Only its owner may read it: it has all that
         was typed, perhaps a password at a wrong place."""
-        self.file = open(
-            self.record, "ab", buffering=0, opener=lambda path, flags: os.open(path, flags, 0o600)
-        )
+        self.file = self.opened(self.record)
+
+    def opened(self, path: str) -> Any:
+        file = open(path, "ab", buffering=0, opener=lambda path, flags: os.open(path, flags, 0o600))
         try:
-            fcntl.flock(self.file, fcntl.LOCK_EX | fcntl.LOCK_NB)
+            fcntl.flock(file, fcntl.LOCK_EX | fcntl.LOCK_NB)
         except BlockingIOError:
             raise Failure(REFUSED, f"another installation goes on with {self.record}") from None
+        return file
+
+    def replace(self, path: str) -> None:
+        """Puts another recording in the place of this one, and has it open; nobody else can open it in between."""
+        file = self.opened(path)
+        os.replace(path, os.path.realpath(self.record))
+        self.file.close()
+        self.file = file
 
     def append(self, data: bytes) -> None:
         """Adds bytes, which need not outlive a crash yet."""

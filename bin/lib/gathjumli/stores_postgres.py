@@ -65,6 +65,7 @@ class EngineStore(FileStore):
     """Keeps an installation in a database. One thread appends, one keeps files, and one says that this engine goes on."""
 
     is_engine = False
+    is_replaceable = False
 
     def __init__(self, url: str, name: str, folder: str, options: dict[str, Any]) -> None:
         folder = os.path.abspath(folder)

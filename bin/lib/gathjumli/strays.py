@@ -55,9 +55,14 @@ def why_stray(recording: Recording, name: str, path: str) -> str:
 
 def session_of(path: str) -> str:
     """The session that a state says to be of, or nothing."""
+    return noted_in(path, SESSION)
+
+
+def noted_in(path: str, note: str) -> str:
+    """A note of a state, or nothing."""
     try:
         with open(path, "rb") as file:
-            return str(read_head(path, file)[1].get(SESSION, ""))
+            return str(read_head(path, file)[1].get(note, ""))
     except (Failure, OSError):
         return ""
 

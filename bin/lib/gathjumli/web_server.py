@@ -105,6 +105,11 @@ class Web:
         self.crowd = Crowd()
         self.tasks = [loop.create_task(pages.watch()) for pages in (self.pages, self.operators)]
 
+    def read_minidisks(self) -> None:
+        """Has pages show the minidisks of the directory as it is now."""
+        installation = self.installation
+        self.pages.minidisks = Minidisks(installation.directory, installation.volumes)
+
     async def listen(self, where: Any) -> None:
         logger = logging.Logger("web", logging.CRITICAL + 1)
         kind = type("OwnConnection", (Connection,), {"crowd": self.crowd, "web": self})
