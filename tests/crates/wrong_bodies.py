@@ -5,7 +5,7 @@ seconds; must-fail/ has those for which a whole crate is proved once more (docs/
 
     tests/crates/wrong_bodies.py [--jobs N] [--list FILE] [CRATE]..
 
-The last line is 'N passed, M failed'."""
+A line for each check says how many seconds it took. The last line is 'N passed, M failed'."""
 from __future__ import annotations
 
 import argparse
@@ -16,6 +16,7 @@ import shutil
 import subprocess
 import sys
 import tempfile
+import time
 
 sys.dont_write_bytecode = True
 TOP = os.path.dirname(os.path.dirname(os.path.dirname(os.path.realpath(__file__))))
@@ -163,6 +164,13 @@ def tried(kit: object, crate: str, bodies: object) -> object:
     return ends
 
 
+def timed(kit: object, crate: str, bodies: object) -> tuple:
+    """The crate, what trying its wrong bodies came to, and how many seconds that took."""
+    begun = time.monotonic()
+    ends = tried(kit, crate, bodies)
+    return crate, ends, time.monotonic() - begun
+
+
 def rounds(bodies: object) -> object:
     """The checks that try all bodies: a crate with functions, and of each its wrong body."""
     checks = []
@@ -188,8 +196,11 @@ def main() -> int:
     bodies = [body for body in bodies_of(words.list) if not words.crates or body[0] in words.crates]
     failed = 0
     with concurrent.futures.ThreadPoolExecutor(words.jobs) as pool:
-        checks = rounds(bodies)
-        for (crate, _), ends in zip(checks, pool.map(lambda item: tried(kit, *item), checks)):
+        checks = [pool.submit(timed, kit, *check) for check in rounds(bodies)]
+        for check in concurrent.futures.as_completed(checks):
+            crate, ends, seconds = check.result()
+            names = ", ".join(sorted(name for name, _ in ends))
+            print(f"{seconds:4.0f} s  {crate}: {names}", flush=True)
             for name, why in (end for end in ends if end[1]):
                 failed += 1
                 print(f"FAILED: {crate}, {name}: {why}", flush=True)
