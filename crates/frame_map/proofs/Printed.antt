@@ -1,5 +1,6 @@
 -- Lines of runs, one after another.
-use Rattle.std.proofs.Common.{◌≡◌, ◌+◌, ℕ, List, [], ◌++◌, append_assoc, append-nil, drop, subst, sym, take}
+use Rattle.std.proofs.Common.{◌≡◌, ◌+◌, ℕ, List, [], ◌∷◌, ◌++◌, append_assoc, append-nil, arith, drop, length}
+use Rattle.std.proofs.Common.{subst, sym, take}
 use Rattle.std.specs.Prelude.{Option}
 use Rattle.frame_map.specs.declared.places.Owner.{Owner}
 use Rattle.frame_map.specs.Runs.{ArePrinted, IsLongestRun, no_more, one_run, run_text}
@@ -28,7 +29,8 @@ run_added word names places rest run after first count so_far more front back ap
     rw (appended, front, back) (run_more word names places rest first count so_far longest printed)
 
 -- and no more
-pub no_run : (word : List ℕ) (names : List (List ℕ)) (places : List (Option Owner)) (first : ℕ) (so_far : List ℕ)
-    → ArePrintedSoFar word names places first [] so_far → ArePrinted word names 0 places so_far
-no_run word names places first so_far printed =
+pub no_run : (word : List ℕ) (names : List (List ℕ)) (places rest : List (Option Owner)) (first : ℕ) (so_far : List ℕ)
+    → length rest ≡ 0 → ArePrintedSoFar word names places first rest so_far → ArePrinted word names 0 places so_far
+no_run word names places [] first so_far none printed =
     subst (ArePrinted word names 0 places) (append-nil so_far) (printed [] (no_more first))
+no_run word names places (place ∷ rest) first so_far none printed = absurd (omega (arith, none))

@@ -41,11 +41,15 @@ place_line word first name page =
     word ++ (codes " " ++ (decimal first ++ (codes " " ++ (name ++ (codes " "
     ++ (page_text page ++ 10 ∷ []))))))
 
--- the line of several, with the first page and the last: `FRAMES 3-4 A 001000-002000`
+-- the end of the line of several, with the first page and the last
+unfoldable pub pages_end : ℕ → ℕ → List ℕ
+pages_end page end = codes " " ++ (page_text page ++ (codes "-" ++ (page_text end ++ 10 ∷ [])))
+
+-- the line of several: `FRAMES 3-4 A 001000-002000`
 abbrev pub places_line : List ℕ → ℕ → ℕ → List ℕ → ℕ → ℕ → List ℕ
 places_line word first last name page end =
     word ++ (codes "S " ++ (decimal first ++ (codes "-" ++ (decimal last ++ (codes " "
-    ++ (name ++ (codes " " ++ (page_text page ++ (codes "-" ++ (page_text end ++ 10 ∷ []))))))))))
+    ++ (name ++ pages_end page end))))))
 
 -- the line of a run from this place on, of which there are so many more, by its first page and its
 -- last; of free places there is none

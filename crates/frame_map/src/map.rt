@@ -1,12 +1,14 @@
 //! The map: a line for each run of places that have successive pages of one user, and how many are
 //! free.
-ghost use Rattle.std.specs.Prelude.{◌≡◌, ◌+◌, ◌-◌, ◌*◌, ◌<◌, ◌++◌, IfOk, OnOk, codes, count_by};
-ghost use Rattle.std.specs.Prelude.{is_none, length, map};
+ghost use Rattle.std.specs.Prelude.{◌≡◌, ◌+◌, ◌*◌, ◌^◌, ◌<◌, ◌++◌, IfOk, OnOk, count_by, is_none};
+ghost use Rattle.std.specs.Prelude.{length, map};
 ghost use Rattle.s370_num.specs.Address.{storage_address};
 ghost use Rattle.user_names.specs.Users.{name_of};
+ghost use Rattle.cp_core.specs.System.{names_of};
+ghost use Rattle.frame_map.specs.Places.{places_in};
 ghost use Rattle.frame_map.specs.Printed.{IsMap};
 ghost use Rattle.frame_map.specs.Runs.{HasPlaces, IsLongestRun, follows, free_line, place_line};
-ghost use Rattle.frame_map.specs.Runs.{places_line, run_text};
+ghost use Rattle.frame_map.specs.Runs.{pages_end, places_line, run_text};
 
 use crate::places::{Owner, PlaceKind, places_in};
 use cp_core::{Sizes, System};
@@ -25,15 +27,42 @@ use user_names::name_of;
 pub fn frame_map(alloc: Global, system: &System, sizes: Sizes) -> Result<Vec<u8>, AllocError>
     ensures { IfOk result (λ text. IsMap system.now sizes text.items) }
 {
-    let frames = places_in(alloc, system, PlaceKind::Frames, sizes.frames() as usize)?;
-    let slots = places_in(alloc, system, PlaceKind::Slots, sizes.slots() as usize)?;
-    let users = system.directory().users();
-    let mut text = places_text(alloc, "FRAME", &frames, users)?;
-    let slots = places_text(alloc, "SLOT", &slots, users)?;
+    let mut text = kind_text(
+        alloc,
+        "FRAME",
+        system,
+        PlaceKind::Frames,
+        sizes.frames() as usize,
+    )?;
+    let slots = kind_text(
+        alloc,
+        "SLOT",
+        system,
+        PlaceKind::Slots,
+        sizes.slots() as usize,
+    )?;
+    let page_ins = system.page_ins();
+    let line = format!(in alloc; "PAGE INS {page_ins}\n")?;
     text.extend_from_slice(&slots)?;
-    let line = format!(in alloc; "PAGE INS {}\n", system.page_ins())?;
     text.extend_from_slice(line.as_bytes())?;
     Ok(text)
+}
+
+/// Returns the lines of the places of this kind, of which a system has so many, and which `word`
+/// calls frames or slots.
+fn kind_text(
+    alloc: Global,
+    word: &str,
+    system: &System,
+    kind: PlaceKind,
+    count: usize,
+) -> Result<Vec<u8>, AllocError>
+    ensures { IfOk result (λ text. HasPlaces word.now (names_of system.now.directory)
+        (places_in system.now kind count) text.items) }
+{
+    let places = places_in(alloc, system, kind, count)?;
+    let users = system.directory().users();
+    places_text(alloc, word, &places, users)
 }
 
 /// Returns the lines of these places, which `word` calls frames or slots: one for each run of
@@ -177,13 +206,21 @@ fn append_places(
         ++ places_line word.now first (first + more) name.now page end) }
 {
     let last = first + more;
-    let page = address_of(page);
-    let end = address_of(end);
     let head = format!(in alloc; "{word}S {first}-{last} ")?;
-    let tail = format!(in alloc; " {page}-{end}\n")?;
     out.extend_from_slice(head.as_bytes())?;
     out.extend_from_slice(name)?;
-    out.extend_from_slice(tail.as_bytes())
+    append_pages(alloc, out, page, end)
+}
+
+/// Appends the first page and the last of a run, and the end of the line.
+#[tactic(auto, unfolding(crate::specs::Runs::pages_end))]
+fn append_pages(alloc: Global, out: &mut Vec<u8>, page: u32, end: u32) -> Result<(), AllocError>
+    ensures { OnOk result (out.new.items ≡ out.old.items ++ pages_end page end) }
+{
+    let page = address_of(page);
+    let end = address_of(end);
+    let pages = format!(in alloc; " {page}-{end}\n")?;
+    out.extend_from_slice(pages.as_bytes())
 }
 
 /// Returns the address at which a page begins.

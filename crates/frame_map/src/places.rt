@@ -1,5 +1,5 @@
 //! The places of a system, frames and slots, and the page that is in each.
-ghost use Rattle.std.specs.Prelude.{◌≡◌, IfOk, None, length, replicate, slice_get};
+ghost use Rattle.std.specs.Prelude.{◌≡◌, ◌<◌, IfOk, None, length, replicate, slice_get};
 ghost use Rattle.frame_map.specs.Places.{pages_of, place_in, places_in, put_at, put_pages};
 
 use cp_core::System;

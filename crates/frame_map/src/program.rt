@@ -179,7 +179,6 @@ fn with_end(text: Vec<u8>) -> Result<Vec<u8>, AllocError>
 }
 
 /// Returns whether the last line of a text is ended, or the text is empty.
-#[tactic(auto, using(crate::proofs::Ended::ended_by_last))]
 fn is_ended(text: &[u8]) -> bool
     ensures { result ≡ is_whole text.now }
 {
