@@ -6,7 +6,8 @@ use Rattle.frame_map.specs.declared.places.Owner.{Owner}
 use Rattle.frame_map.specs.Runs.{ArePrinted, IsLongestRun, no_more, one_run, run_text}
 
 -- what is printed so far, of all places
-abbrev pub ArePrintedSoFar : List ℕ → List (List ℕ) → List (Option Owner) → ℕ → List (Option Owner) → List ℕ → Type 0
+abbrev pub ArePrintedSoFar : List ℕ → List (List ℕ) → List (Option Owner) → ℕ → List (Option Owner) → List ℕ
+    → Type 0
 ArePrintedSoFar word names places first rest so_far = (text : List ℕ) → ArePrinted word names first rest text
     → ArePrinted word names 0 places (so_far ++ text)
 
@@ -16,8 +17,9 @@ pub run_more : (word : List ℕ) (names : List (List ℕ)) (places rest : List (
     → ArePrintedSoFar word names places (first + count) (drop count rest)
     (so_far ++ run_text word names first (take count rest))
 run_more word names places rest first count so_far run printed = λ text more.
-    subst (ArePrinted word names 0 places) (sym (append_assoc so_far (run_text word names first (take count rest)) text))
-    (printed (run_text word names first (take count rest) ++ text) (one_run first count rest text run more))
+    let line = run_text word names first (take count rest) in
+    subst (ArePrinted word names 0 places) (sym (append_assoc so_far line text))
+    (printed (line ++ text) (one_run first count rest text run more))
 
 -- the same, of what is known of the parts of a run
 pub run_added : (word : List ℕ) (names : List (List ℕ)) (places rest run after : List (Option Owner)) (first count : ℕ)

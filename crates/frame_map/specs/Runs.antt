@@ -1,5 +1,5 @@
--- Runs of places: free ones, or such as have successive pages of one user; and the lines that the map
--- has of them.
+-- Runs of places: free ones, or such as have successive pages of one user; and the lines that the
+-- map has of them.
 use Rattle.std.specs.Prelude.{◌≡◌, ◌==◌, ◌&&◌, ◌+◌, ◌-◌, ◌*◌, ◌<◌, ◌≤◌, ℕ, Bool, true, false}
 use Rattle.std.specs.Prelude.{if◌then◌else◌, List, [], ◌∷◌, ◌++◌, codes, count_by, drop, is_none}
 use Rattle.std.specs.Prelude.{length, slice_index_or, take, Option, Some, None}

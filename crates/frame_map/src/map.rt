@@ -139,8 +139,8 @@ fn follows(before: Option<Owner>, next: Option<Owner>) -> bool
     }
 }
 
-/// Appends the line of a run of places, of which the first has this number; a run of free places has
-/// none.
+/// Appends the line of a run of places, of which the first has this number; a run of free places
+/// has none.
 fn append_run(
     alloc: Global,
     out: &mut Vec<u8>,
@@ -189,8 +189,8 @@ fn append_place(
     out.extend_from_slice(tail.as_bytes())
 }
 
-/// Appends the line of a place and of so many more after it, which have the pages of the user of this
-/// name from `page` to `end`.
+/// Appends the line of a place and of so many more after it, which have the pages of the user of
+/// this name from `page` to `end`.
 fn append_places(
     alloc: Global,
     out: &mut Vec<u8>,
