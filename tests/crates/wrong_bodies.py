@@ -5,7 +5,7 @@ seconds; must-fail/ has those for which a whole crate is proved once more (docs/
 
     tests/crates/wrong_bodies.py [--jobs N] [--list FILE] [CRATE]..
 
-The last line is 'N passed, M failed'."""
+A line for each check says how many seconds it took. The last line is 'N passed, M failed'."""
 from __future__ import annotations
 
 import argparse
@@ -16,6 +16,7 @@ import shutil
 import subprocess
 import sys
 import tempfile
+import time
 
 sys.dont_write_bytecode = True
 TOP = os.path.dirname(os.path.dirname(os.path.dirname(os.path.realpath(__file__))))
@@ -131,9 +132,9 @@ def judged(done: object, crate: str, changed: object, functions: object) -> obje
     return {item: None if own.search(end) else end for item, end in ends.items()}
 
 
-def tried(kit: object, crate: str, bodies: object) -> object:
-    """Tries wrong bodies of a crate, by their functions, in one check: of each its name, and why its contract does not refuse it,
-    or None."""
+def tried(kit: object, crate: str, bodies: object, kept: str) -> object:
+    """Tries wrong bodies of a crate, by their functions, in one check, which takes what earlier ones have kept in a folder: of each its
+    name, and why its contract does not refuse it, or None."""
     folder, texts, ends = f"{TOP}/crates/{crate}", {}, []
     for function, name in list(bodies.items()):
         with open(f"{folder}/planted/{name}.edit", encoding="utf-8") as file:
@@ -151,26 +152,48 @@ def tried(kit: object, crate: str, bodies: object) -> object:
         for path, text in texts.items():
             with open(f"{room}/{path}", "w", encoding="utf-8") as file:
                 file.write(text)
-        done = done_in(room, check_words(crate, bodies, kit), SECONDS)
+        words = [*check_words(crate, bodies, kit), "--incremental", kept]
+        try:
+            done = done_in(room, words, SECONDS)
+        except subprocess.TimeoutExpired:
+            return [
+                *ends,
+                *((name, f"no verdict in {SECONDS} seconds") for name in bodies.values()),
+            ]
     for function, why in judged(done, crate, texts, bodies).items():
         # one that calls another is tried again alone
         is_again = why and "it calls" in why and len(bodies) > 1
         ends += (
-            tried(kit, crate, {function: bodies[function]})
+            tried(kit, crate, {function: bodies[function]}, kept)
             if is_again
             else [(bodies[function], why)]
         )
     return ends
 
 
-def rounds(bodies: object) -> object:
-    """The checks that try all bodies: a crate with functions, and of each its wrong body."""
-    checks = []
+def tried_crate(kit: object, crate: str, checks: list) -> list:
+    """Tries the wrong bodies of a crate, in these checks one after another, and prints how many seconds each takes. What it proves of other
+    functions is kept for the next."""
+    found = []
+    with tempfile.TemporaryDirectory() as kept:
+        for bodies in checks:
+            begun = time.monotonic()
+            ends = tried(kit, crate, bodies, kept)
+            seconds = time.monotonic() - begun
+            names = ", ".join(sorted(bodies.values()))
+            print(f"{seconds:4.0f} seconds: {crate}, {names}", flush=True)
+            found += ends
+    return found
+
+
+def rounds(bodies: list) -> dict:
+    """The checks that try all bodies, by crates: of each function its wrong body."""
+    checks: dict = {}
     for crate, name, function in bodies:
-        fitting = (some for other, some in checks if other == crate and function not in some)
-        some = next(fitting, None)
+        of_crate = checks.setdefault(crate, [])
+        some = next((some for some in of_crate if function not in some), None)
         if some is None:
-            checks.append((crate, some := {}))
+            of_crate.append(some := {})
         some[function] = name
     return checks
 
@@ -188,11 +211,14 @@ def main() -> int:
     bodies = [body for body in bodies_of(words.list) if not words.crates or body[0] in words.crates]
     failed = 0
     with concurrent.futures.ThreadPoolExecutor(words.jobs) as pool:
-        checks = rounds(bodies)
-        for (crate, _), ends in zip(checks, pool.map(lambda item: tried(kit, *item), checks)):
-            for name, why in (end for end in ends if end[1]):
+        checks = {
+            pool.submit(tried_crate, kit, crate, some): crate
+            for crate, some in rounds(bodies).items()
+        }
+        for check in concurrent.futures.as_completed(checks):
+            for name, why in (end for end in check.result() if end[1]):
                 failed += 1
-                print(f"FAILED: {crate}, {name}: {why}", flush=True)
+                print(f"FAILED: {checks[check]}, {name}: {why}", flush=True)
     return report(len(bodies) - failed, failed)
 
 

@@ -1,1 +1,4 @@
-mod Unmapped
+pub mod Ended
+pub mod Placed
+pub mod Printed
+pub mod Unmapped

@@ -1,12 +1,12 @@
 -- What the program does with its files before it prints the map, and why it ends before that.
-use Rattle.std.specs.Prelude.{◌≡◌, ◌⊎◌, ℕ, ◌-◌, ◌==◌, true, if◌then◌else◌, List, [], ◌∷◌}
-use Rattle.std.specs.Prelude.{◌++◌, length, slice_index_or, Option, None, Err}
+use Rattle.std.specs.Prelude.{◌≡◌, ◌⊎◌, ℕ, true, if◌then◌else◌, List, [], ◌∷◌, ◌++◌}
+use Rattle.std.specs.Prelude.{Option, None, Err}
 use Rattle.cp_core.specs.System.{SystemView}
 use Rattle.program_host.specs.Deeds.{Adds, Misses, Opens}
 use Rattle.programs.specs.Opened.{Unmaking}
 use Rattle.programs.specs.declared.faults.Failure.{Failure}
 use Rattle.programs.specs.declared.faults.Failure.TheVariants as failures
-use Rattle.sessions.specs.Follow.{Became, part_of}
+use Rattle.sessions.specs.Follow.{Became, is_whole, part_of}
 use Rattle.sessions.specs.Runs.{IsRestored}
 use Rattle.sessions.specs.Schedule.{Scene}
 use Rattle.sessions.specs.Session.{IsRead}
@@ -53,9 +53,9 @@ pub record IsNoState {F : Type 0} (Gives : List ℕ → F → Type 0) (remaining
 
 -- ---- a script that goes on from a state
 
--- the text with the end of its last line, which it may lack
+-- the text with the end of its last line, which it may lack; an empty text has no line
 abbrev pub with_end : List ℕ → List ℕ
-with_end text = if slice_index_or text (length text - 1) 10 == 10 then text else text ++ 10 ∷ []
+with_end text = if is_whole text then text else text ++ 10 ∷ []
 
 -- the script at this path was done as one part from a scene, and left this system
 pub record IsFollowedAt {F : Type 0} (Gives : List ℕ → F → Type 0)

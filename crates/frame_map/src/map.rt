@@ -1,11 +1,19 @@
 //! The map: a line for each run of places that have successive pages of one user, and how many are
 //! free.
-ghost use Rattle.std.specs.Prelude.{◌≡◌, ◌+◌, ◌-◌, ◌<◌, ◌≤◌, None, false, length, slice_index_or};
-ghost use Rattle.frame_map.specs.Runs.{AreTogether, follows};
+ghost use Rattle.std.specs.Prelude.{◌≡◌, ◌+◌, ◌*◌, ◌^◌, ◌<◌, ◌++◌, IfOk, OnOk, count_by, is_none};
+ghost use Rattle.std.specs.Prelude.{length, map};
+ghost use Rattle.s370_num.specs.Address.{storage_address};
+ghost use Rattle.user_names.specs.Users.{name_of};
+ghost use Rattle.cp_core.specs.System.{names_of};
+ghost use Rattle.frame_map.specs.Places.{places_in};
+ghost use Rattle.frame_map.specs.Printed.{IsMap};
+ghost use Rattle.frame_map.specs.Runs.{HasPlaces, IsLongestRun, follows, free_line, place_line};
+ghost use Rattle.frame_map.specs.Runs.{pages_end, places_line, run_text};
 
-use crate::places::{Owner, Places};
+use crate::places::{Owner, PlaceKind, places_in};
 use cp_core::{Sizes, System};
 use cp_directory::User;
+use s370_num::Addr24;
 use s370_store::PAGE_SIZE;
 use std::alloc::{AllocError, Global};
 use user_names::name_of;
@@ -16,49 +24,99 @@ use user_names::name_of;
 /// # Errors
 ///
 /// `AllocError` if memory is refused.
-pub fn frame_map(alloc: Global, system: &System, sizes: Sizes) -> Result<Vec<u8>, AllocError> {
-    let places = Places::of_system(alloc, system, sizes)?;
-    let users = system.directory().users();
-    let mut text = Vec::new(alloc);
-    print_places(alloc, &mut text, "FRAME", &places.frames, users)?;
-    print_places(alloc, &mut text, "SLOT", &places.slots, users)?;
-    let line = format!(in alloc; "PAGE INS {}\n", system.page_ins())?;
+pub fn frame_map(alloc: Global, system: &System, sizes: Sizes) -> Result<Vec<u8>, AllocError>
+    ensures { IfOk result (λ text. IsMap system.now sizes text.items) }
+{
+    let mut text = kind_text(
+        alloc,
+        "FRAME",
+        system,
+        PlaceKind::Frames,
+        sizes.frames() as usize,
+    )?;
+    let slots = kind_text(
+        alloc,
+        "SLOT",
+        system,
+        PlaceKind::Slots,
+        sizes.slots() as usize,
+    )?;
+    let page_ins = system.page_ins();
+    let line = format!(in alloc; "PAGE INS {page_ins}\n")?;
+    text.extend_from_slice(&slots)?;
     text.extend_from_slice(line.as_bytes())?;
     Ok(text)
 }
 
-/// Appends the lines of these places, which `word` calls frames or slots: one for each run of
+/// Returns the lines of the places of this kind, of which a system has so many, and which `word`
+/// calls frames or slots.
+fn kind_text(
+    alloc: Global,
+    word: &str,
+    system: &System,
+    kind: PlaceKind,
+    count: usize,
+) -> Result<Vec<u8>, AllocError>
+    ensures { IfOk result (λ text. HasPlaces word.now (names_of system.now.directory)
+        (places_in system.now kind count) text.items) }
+{
+    let places = places_in(alloc, system, kind, count)?;
+    let users = system.directory().users();
+    places_text(alloc, word, &places, users)
+}
+
+/// Returns the lines of these places, which `word` calls frames or slots: one for each run of
 /// places with pages, and one of how many are free.
-fn print_places(
+fn places_text(
+    alloc: Global,
+    word: &str,
+    places: &[Option<Owner>],
+    users: &[User],
+) -> Result<Vec<u8>, AllocError>
+    ensures { IfOk result
+        (λ text. HasPlaces word.now (map (λ user. user.name) users.now) places.now text.items) }
+{
+    let mut text = Vec::new(alloc);
+    let mut rest = places;
+    let mut first = 0;
+    while !rest.is_empty() {
+        let count = run_length(rest);
+        let (run, after) = rest.split_at(count);
+        append_run(alloc, &mut text, word, first, run, users)?;
+        first += count;
+        rest = after;
+    }
+    append_free(alloc, &mut text, word, places)?;
+    Ok(text)
+}
+
+/// Appends the line of how many of these places are free.
+fn append_free(
     alloc: Global,
     out: &mut Vec<u8>,
     word: &str,
     places: &[Option<Owner>],
-    users: &[User],
-) -> Result<(), AllocError> {
-    let mut first = 0;
-    while first < places.len() {
-        let count = run_length(&places[first..]);
-        if let Some(owner) = places[first] {
-            print_run(alloc, out, word, first, count, owner, users)?;
-        }
-        first += count;
-    }
-    let free = places.iter().filter(|place| place.is_none()).count();
-    let line = format!(in alloc; "FREE {word}S {free} OF {}\n", places.len())?;
+) -> Result<(), AllocError>
+    ensures { OnOk result (out.new.items ≡ out.old.items ++ free_line word.now places.now) }
+{
+    let free = free_count(places);
+    let all = places.len();
+    let line = format!(in alloc; "FREE {word}S {free} OF {all}\n")?;
     out.extend_from_slice(line.as_bytes())
+}
+
+/// Returns how many of these places are free.
+fn free_count(places: &[Option<Owner>]) -> usize
+    ensures { result ≡ count_by is_none places.now }
+{
+    places.iter().filter(|place| place.is_none()).count()
 }
 
 /// Returns how many of the first places are one run: free ones, or ones that have successive pages
 /// of one user.
 fn run_length(places: &[Option<Owner>]) -> usize
     requires { 0 < length places.now }
-    ensures some { 0 < result }
-    ensures most { result ≤ length places.now }
-    ensures together { AreTogether places.now result }
-    ensures longest { result < length places.now
-        → follows (slice_index_or places.now (result - 1) None)
-        (slice_index_or places.now result None) ≡ false }
+    ensures { IsLongestRun places.now result }
 {
     let mut count = 1;
     while count < places.len() && follows(places[count - 1], places[count]) {
@@ -81,38 +139,93 @@ fn follows(before: Option<Owner>, next: Option<Owner>) -> bool
     }
 }
 
-/// Appends the line of `count` places from `first` on, which have the successive pages of a user
-/// from this one on.
-fn print_run(
+/// Appends the line of a run of places, of which the first has this number; a run of free places
+/// has none.
+fn append_run(
     alloc: Global,
     out: &mut Vec<u8>,
     word: &str,
     first: usize,
-    count: usize,
-    owner: Owner,
+    run: &[Option<Owner>],
     users: &[User],
-) -> Result<(), AllocError> {
-    let page = address_of(owner.page, 0);
-    if count == 1 {
-        let line = format!(in alloc; "{word} {first} ")?;
-        out.extend_from_slice(line.as_bytes())?;
-        out.extend_from_slice(name_of(users, owner.user))?;
-        let line = format!(in alloc; " {page:06X}\n")?;
-        return out.extend_from_slice(line.as_bytes());
+) -> Result<(), AllocError>
+    requires some { 0 < length run.now }
+    requires fits { first + length run.now < 2 ^ 64 }
+    ensures { OnOk result (out.new.items ≡ out.old.items
+        ++ run_text word.now (map (λ user. user.name) users.now) first run.now) }
+{
+    let more = run.len() - 1;
+    let Some(owner) = run[0] else {
+        return Ok(());
+    };
+    let Some(end) = run[more] else {
+        return Ok(());
+    };
+    let name = name_of(users, owner.user);
+    if more == 0 {
+        append_place(alloc, out, word, first, name, owner.page)
+    } else {
+        append_places(alloc, out, word, first, more, name, owner.page, end.page)
     }
-    let more = count.saturating_sub(1);
-    let last = first.saturating_add(more);
-    let line = format!(in alloc; "{word}S {first}-{last} ")?;
-    out.extend_from_slice(line.as_bytes())?;
-    out.extend_from_slice(name_of(users, owner.user))?;
-    let end = address_of(owner.page, more);
-    let line = format!(in alloc; " {page:06X}-{end:06X}\n")?;
-    out.extend_from_slice(line.as_bytes())
 }
 
-/// Returns the address of the page that is `after` pages after this one.
-fn address_of(page: u32, after: usize) -> u64 {
-    (u64::from(page))
-        .saturating_add(after as u64)
-        .saturating_mul(u64::from(PAGE_SIZE))
+/// Appends the line of one place, which has a page of the user of this name.
+fn append_place(
+    alloc: Global,
+    out: &mut Vec<u8>,
+    word: &str,
+    first: usize,
+    name: &[u8],
+    page: u32,
+) -> Result<(), AllocError>
+    ensures { OnOk result (out.new.items ≡ out.old.items
+        ++ place_line word.now first name.now page) }
+{
+    let page = address_of(page);
+    let head = format!(in alloc; "{word} {first} ")?;
+    let tail = format!(in alloc; " {page}\n")?;
+    out.extend_from_slice(head.as_bytes())?;
+    out.extend_from_slice(name)?;
+    out.extend_from_slice(tail.as_bytes())
+}
+
+/// Appends the line of a place and of so many more after it, which have the pages of the user of
+/// this name from `page` to `end`.
+fn append_places(
+    alloc: Global,
+    out: &mut Vec<u8>,
+    word: &str,
+    first: usize,
+    more: usize,
+    name: &[u8],
+    page: u32,
+    end: u32,
+) -> Result<(), AllocError>
+    requires { first + more < 2 ^ 64 }
+    ensures { OnOk result (out.new.items ≡ out.old.items
+        ++ places_line word.now first (first + more) name.now page end) }
+{
+    let last = first + more;
+    let head = format!(in alloc; "{word}S {first}-{last} ")?;
+    out.extend_from_slice(head.as_bytes())?;
+    out.extend_from_slice(name)?;
+    append_pages(alloc, out, page, end)
+}
+
+/// Appends the first page and the last of a run, and the end of the line.
+#[tactic(auto, unfolding(crate::specs::Runs::pages_end))]
+fn append_pages(alloc: Global, out: &mut Vec<u8>, page: u32, end: u32) -> Result<(), AllocError>
+    ensures { OnOk result (out.new.items ≡ out.old.items ++ pages_end page end) }
+{
+    let page = address_of(page);
+    let end = address_of(end);
+    let pages = format!(in alloc; " {page}-{end}\n")?;
+    out.extend_from_slice(pages.as_bytes())
+}
+
+/// Returns the address at which a page begins.
+fn address_of(page: u32) -> Addr24
+    ensures { result ≡ storage_address (page * 4096) }
+{
+    Addr24::wrapping(page.wrapping_mul(PAGE_SIZE))
 }

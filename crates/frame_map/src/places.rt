@@ -1,8 +1,11 @@
 //! The places of a system, frames and slots, and the page that is in each.
-use cp_core::{Sizes, System};
+ghost use Rattle.std.specs.Prelude.{◌≡◌, ◌<◌, IfOk, None, length, replicate, slice_get};
+ghost use Rattle.frame_map.specs.Places.{pages_of, place_in, places_in, put_at, put_pages};
+
+use cp_core::System;
 use s370_store::Page;
 use std::alloc::{AllocError, Global};
-use user_names::{MOST_USERS, UserNo};
+use user_names::UserNo;
 
 /// A page of a user.
 #[derive(Clone, Copy, PartialEq, Eq, Drop)]
@@ -13,52 +16,91 @@ pub struct Owner {
     pub page: u32,
 }
 
-/// What is in each frame and in each slot; nothing in one that is free.
-#[derive(Drop)]
-pub(crate) struct Places {
-    pub(crate) frames: Vec<Option<Owner>>,
-    pub(crate) slots: Vec<Option<Owner>>,
+/// The places of a system: each has one page, or is free.
+#[derive(Clone, Copy)]
+pub enum PlaceKind {
+    /// Page frames of real storage.
+    Frames,
+    /// Slots for the pages that are in no frame.
+    Slots,
 }
 
-impl Places {
-    /// Returns places that are all free: this many frames and slots.
-    fn free(alloc: Global, sizes: Sizes) -> Result<Places, AllocError> {
-        let frames = vec![in alloc; None; sizes.frames() as usize]?;
-        let slots = vec![in alloc; None; sizes.slots() as usize]?;
-        Ok(Places { frames, slots })
+/// Returns which page is in each place of this kind, of which a system has so many.
+#[tactic(auto, using(crate::proofs::Placed::user_more))]
+pub(crate) fn places_in(
+    alloc: Global,
+    system: &System,
+    kind: PlaceKind,
+    count: usize,
+) -> Result<Vec<Option<Owner>>, AllocError>
+    ensures { IfOk result (λ places. places.items ≡ places_in system.now kind count) }
+{
+    let mut places = free_places(alloc, count)?;
+    for number in 0..system.users() {
+        put_pages(system, kind, UserNo::new(number as u8), &mut places);
     }
+    Ok(places)
+}
 
-    /// Returns which page is in each frame and in each slot of a system that has so many.
-    pub(crate) fn of_system(
-        alloc: Global,
-        system: &System,
-        sizes: Sizes,
-    ) -> Result<Places, AllocError> {
-        let mut places = Places::free(alloc, sizes)?;
-        for (number, user) in system.directory().users().iter().enumerate() {
-            if number < MOST_USERS {
-                places.put_user(system, UserNo::new(number as u8), user.storage().pages());
-            }
-        }
-        Ok(places)
+/// Returns so many places that are free.
+#[tactic(auto, using(crate::proofs::Placed::free_more))]
+fn free_places(alloc: Global, count: usize) -> Result<Vec<Option<Owner>>, AllocError>
+    ensures { IfOk result (λ places. places.items ≡ replicate count None) }
+{
+    let mut places = Vec::new(alloc);
+    for _place in 0..count {
+        places.push(None)?;
     }
+    Ok(places)
+}
 
-    /// Records in which frames and slots the first `pages` pages of a user are.
-    fn put_user(&mut self, system: &System, user: UserNo, pages: u32) {
-        for page in 0..pages {
-            if let Some(frame) = system.frame_of(user, Page(page)) {
-                put(&mut self.frames, usize::from(frame.0), user, page);
-            }
-            if let Some(slot) = system.slot_of(user, Page(page)) {
-                put(&mut self.slots, slot, user, page);
-            }
-        }
+/// Records which places of this kind have the pages of a user.
+#[tactic(auto, using(crate::proofs::Placed::page_more))]
+fn put_pages(system: &System, kind: PlaceKind, user: UserNo, places: &mut [Option<Owner>])
+    requires { user < length system.now.directory }
+    ensures { places.new ≡ put_pages (place_in system.now kind user) user
+        (pages_of (slice_get system.now.directory user)) places.old }
+{
+    for page in 0..pages_of(system, user) {
+        put_page(
+            places,
+            place_of(system, kind, user, page),
+            Owner { user, page },
+        );
     }
 }
 
-/// Records that a page of a user is in the place of this number, if there is one.
-fn put(places: &mut [Option<Owner>], number: usize, user: UserNo, page: u32) {
-    if let Some(place) = places.get_mut(number) {
-        *place = Some(Owner { user, page });
+/// Returns how many pages a user's storage has; 0 if there is no such user.
+fn pages_of(system: &System, user: UserNo) -> u32
+    ensures { result ≡ pages_of (slice_get system.now.directory user) }
+{
+    match system.directory().users().get(user.index()) {
+        Some(user) => user.storage().pages(),
+        None => 0,
+    }
+}
+
+/// Returns the place of this kind that has a page of a user, if one has it.
+fn place_of(system: &System, kind: PlaceKind, user: UserNo, page: u32) -> Option<usize>
+    ensures { result ≡ place_in system.now kind user page }
+{
+    match kind {
+        PlaceKind::Frames => match system.frame_of(user, Page(page)) {
+            Some(frame) => Some(usize::from(frame.0)),
+            None => None,
+        },
+        PlaceKind::Slots => system.slot_of(user, Page(page)),
+    }
+}
+
+/// Records that a page is in the place of this number, if it is in one.
+fn put_page(places: &mut [Option<Owner>], number: Option<usize>, owner: Owner)
+    ensures { places.new ≡ put_at number owner places.old }
+{
+    let Some(number) = number else {
+        return;
+    };
+    if number < places.len() {
+        places[number] = Some(owner);
     }
 }

@@ -3,19 +3,20 @@
 //! map of frames and slots is printed.
 //!
 //! Its refusals and its exit statuses are those of `vm370`; what that would print is not kept.
-ghost use Rattle.std.specs.Prelude.{◌≡◌, ◌⊎◌, ◌-◌, ◌==◌, ◌∷◌, [], length, slice_index_or, IfErr};
-ghost use Rattle.std.specs.Prelude.{IfOk, None, OnOk};
+ghost use Rattle.std.specs.Prelude.{◌≡◌, ◌⊎◌, ◌∷◌, [], IfErr, IfOk, None, OnOk};
 ghost use Rattle.cp_core.specs.System.{SystemView};
 ghost use Rattle.program_host.specs.Deeds.{Adds, Opens};
-ghost use Rattle.sessions.specs.Follow.{Became};
+ghost use Rattle.sessions.specs.Follow.{Became, is_whole};
 ghost use Rattle.sessions.specs.Schedule.{Scene};
 ghost use Rattle.vm370.specs.Goes.{system_goes};
 ghost use Rattle.frame_map.specs.Maps.{ComesToNothing, IsFileAt, IsFollowedAt, IsNoState};
 ghost use Rattle.frame_map.specs.Maps.{IsRefusedPart, IsRestoredAt, IsUnfollowed, Never, with_end};
+ghost use Rattle.frame_map.specs.Printed.{IsMapPrinted};
 
 use crate::arguments::{MapOptions, arguments};
 use crate::map::frame_map;
 use crate::nowhere::Nowhere;
+use cp_core::{Sizes, System};
 use program_host::{ProgramEnd, ProgramHost, finish, wrong_use};
 use programs::{Failure, save_images, saved_paths};
 use s370_num::host::{HostWriter, read_all, write_all};
@@ -71,11 +72,25 @@ fn run<H: ProgramHost>(alloc: Global, host: &mut H) -> Result<(), Failure> {
     let volumes = run.volumes.as_slice();
     let machines = read_system(alloc, host, run.directory, volumes, run.sizes)?;
     let machines = run_script(alloc, host, machines, &options)?;
-    let map = frame_map(alloc, machines.system(), run.sizes)?;
+    print_map(alloc, host, machines.system(), run.sizes)?;
+    save_images(alloc, host, &machines, saved_paths(run.save, volumes))
+}
+
+/// Prints the map of a system that has so many frames and slots on standard output.
+fn print_map<H: ProgramHost>(
+    alloc: Global,
+    host: &mut H,
+    system: &System,
+    sizes: Sizes,
+) -> Result<(), Failure>
+    ensures { OnOk result (IsMapPrinted H.prints H.Output.contents H.Output.held system.now sizes
+        (H.deeds host.old) (H.deeds host.new)) }
+{
+    let map = frame_map(alloc, system, sizes)?;
     let mut output = host.output(false)?;
     write_all(&mut output, &map)?;
     output.flush()?;
-    save_images(alloc, host, &machines, saved_paths(run.save, volumes))
+    Ok(())
 }
 
 /// Plays the script, from the state if one is named, without keeping its transcript, and returns
@@ -165,7 +180,7 @@ fn with_end(text: Vec<u8>) -> Result<Vec<u8>, AllocError>
 
 /// Returns whether the last line of a text is ended, or the text is empty.
 fn is_ended(text: &[u8]) -> bool
-    ensures { result ≡ (slice_index_or text.now (length text.now - 1) 10 == 10) }
+    ensures { result ≡ is_whole text.now }
 {
     match text {
         [.., last] => *last == b'\n',
