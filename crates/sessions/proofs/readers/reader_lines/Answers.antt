@@ -1,4 +1,4 @@
-use Rattle.sessions.proofs.Readers.{readers_more}
+use Rattle.sessions.proofs.Queuing.{readers_more}
 use Rattle.sessions.proofs.readers.reader_lines.Goals as goal
 
 pub loop-number-preserved : goal.loop-number-preserved
