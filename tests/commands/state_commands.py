@@ -209,12 +209,14 @@ def type_states(check: Check, repository: str, folder: str) -> None:
 
 
 def refuse_words(check: Check, program: str, folder: str) -> None:
-    """What vm370 and bare370 answer to SAVE, VIEW, SEEK, STATE and HOLDS, also if that cannot be done."""
+    """What vm370 and bare370 answer to SAVE, VIEW, SEEK, STATE, HOLDS and FILES, also if that cannot be done."""
     write(f"{folder}/directory", b"USER A PW 8K\n")
     cases = {
         "a machine of its own is saved": ([program, "bare370", "--follow", "8K"], b"SAVE\n", 0, b"> REFUSED 0\n", b""),
         "a machine of its own goes on": ([program, "bare370", "--follow", "8K"], b"STATE\n1\nx", 1, b"", b"fault: state Refused\n"),
         "what a machine of its own holds": ([program, "bare370", "--follow", "8K"], b"HOLDS\nEND\n", 0, b"> HOLDS BARE 0 0\n> DONE\n", b""),
+        "the decks of a machine of its own": ([program, "bare370", "--follow", "8K"], b"16\nDECK BARE 2\nA\nB\nFILES\nEND\n", 0, b"> DONE\nBARE: FILE 0001 FROM SYSTEM CARDS 2\n> DONE\n", b""),
+        "no decks in readers": ([program, "vm370", "--follow", f"{folder}/directory"], b"FILES\nEND\n", 0, b"> DONE\n", b""),
         "a machine of its own is viewed": ([program, "bare370", "--follow", "8K"], b"VIEW 0\n", 0, b"> REFUSED 0\n", b""),
         "a user who is not there is viewed": ([program, "vm370", "--follow", f"{folder}/directory"], b"VIEW 01\nEND\n", 0, b"> REFUSED 0\n", b""),
         "a user of no number is viewed": ([program, "vm370", "--follow", f"{folder}/directory"], b"VIEW A\n", 3, b"", b"fault: file Device 1\n"),
@@ -325,6 +327,16 @@ def tell_open_files(check: Check, program: str) -> None:
     check("what is held by a punch", found == wanted, *found, *wanted)
 
 
+def tell_readers(check: Check, program: str) -> None:
+    """The decks in readers are told as QUERY FILES shows them, also of a user who is not on."""
+    folder = f"{ALL_EXAMPLES}/cards-for-another"
+    part = read(f"{folder}/script").partition(b"LINE B LOGON\n")[0]
+    requests = b"%d\n%sFILES\nEND\n" % (len(part), part)
+    _, out, _ = asked([program, "vm370", "--follow", f"{folder}/directory"], requests)
+    shown = re.search(rb"^B: FILE .*\n", read(f"{folder}/transcript"), re.M)[0]
+    check("the decks in readers", out.endswith(b"> DONE\n%s> DONE\n" % shown), out, shown)
+
+
 def try_commands(check: Check, repository: str, program: str, folder: str) -> None:
     os.makedirs(folder)
     for name, place in EXAMPLES.items():
@@ -334,5 +346,6 @@ def try_commands(check: Check, repository: str, program: str, folder: str) -> No
     type_states(check, repository, f"{folder}/typed")
     refuse_words(check, program, folder)
     tell_open_files(check, program)
+    tell_readers(check, program)
     refuse_volumes(check, program, f"{folder}/volumes")
     refuse_long_sizes(check, program, folder)

@@ -5,7 +5,7 @@ from collections.abc import Callable
 import os
 
 from tests.installation.operators import operator
-from tests.lib.files import names_in, read
+from tests.lib.files import names_in, read, write
 from tests.lib.sites import Site, make_site, on, run
 
 FIRST, SECOND, OTHER = "PRT0001-ALICE", "PRT0002-ALICE", "PRT0003-BOB"
@@ -73,6 +73,26 @@ def try_care(check: Callable, site: Site) -> None:
     check("it ends", operator(site, "end").returncode == 0 and site.ended() == 0, *site.findings)
 
 
+def try_readers(check: Callable, site: Site) -> None:
+    """Decks in readers are listed by user, also after a restart."""
+    words = ["--operate", f"{site.folder}/operator", "--decks", f"{site.folder}/decks"]
+    site.online(*words)
+    answered(check, site, "readers", 0, "0 decks")
+    for name, text in (("ALICE", "ONE\nTWO\n"), ("BOB", "THREE\n")):
+        write(f"{site.folder}/decks/{name}/deck", text.encode())
+        check(f"{name} has a deck", site.await_message(f"deck deck for {name}: read in"))
+    alice, bob = "ALICE: FILE 0001 FROM SYSTEM CARDS 2", "BOB: FILE 0002 FROM SYSTEM CARDS 1"
+    for _ in range(2):
+        answered(check, site, "readers", 0, alice, bob, "2 decks")
+        answered(check, site, "readers bob", 0, bob, "1 deck")
+        found = operator(site, "readers", "bob").stdout
+        check("nobody else's are listed", "ALICE" not in found, found)
+        answered(check, site, "readers NOBODY", 1, "there is no user NOBODY")
+        check("it is suspended", site.stop() == 0, *site.findings)
+        site.online(*words)
+    check("it is suspended", site.stop() == 0, *site.findings)
+
+
 def try_no_folder(check: Callable, site: Site) -> None:
     """Without a folder files are listed, and there is nothing to do to them."""
     site.online("--operate", f"{site.folder}/operator")
@@ -86,4 +106,5 @@ def try_spool(check: Callable, command: str, folder: str) -> None:
     """All that is tried in seconds, over a stand-in for the program."""
     os.makedirs(folder)
     try_care(check, make_site(command, f"{folder}/care"))
+    try_readers(check, make_site(command, f"{folder}/readers"))
     try_no_folder(check, make_site(command, f"{folder}/no folder"))

@@ -18,11 +18,12 @@ class StandIn:
         self.has_slices = has_slices
         with open(directory) as file:
             self.users = {
-                item.split()[1]: {"mode": "OFF", "G1": 0, "open": 0}
+                item.split()[1]: {"mode": "OFF", "G1": 0, "open": 0, "decks": []}
                 for item in file
                 if item.startswith("USER ")
             }
         self.files = []
+        self.decks = 0
         self.findings = []
 
     def say(self, name: str, text: str) -> None:
@@ -41,6 +42,7 @@ class StandIn:
             elif word == "DECK":
                 name, count = rest.split()
                 del lines[: int(count)]
+                self.deck(name, f"FROM SYSTEM CARDS {count}")
             elif word == "AUTO":
                 self.auto(int(rest))
             elif word not in ("", "TICK", "RUN", "SERVE") and not word.startswith("*"):
@@ -49,6 +51,11 @@ class StandIn:
         for name, entry in self.users.items():
             self.findings += [f"> {state} {name}" for state in became(before[name], entry["mode"])]
         return self.findings + ["> IDLE"] * self.is_idle
+
+    def deck(self, name: str, text: str) -> None:
+        """A deck comes to a reader."""
+        self.decks += 1
+        self.users[name]["decks"].append((len(self.files) + self.decks, text))
 
     def auto(self, turns: int) -> None:
         running = [name for name, item in self.users.items() if item["mode"] == "RUNS"]
@@ -103,13 +110,19 @@ class StandIn:
 
     def save(self) -> None:
         """Answers SAVE."""
-        state = json.dumps([self.users, self.files]).encode()
+        state = json.dumps([self.users, self.files, self.decks]).encode()
         sys.stdout.buffer.write(b"> STATE %d\n%s> DONE\n" % (len(state), state))
         sys.stdout.flush()
 
     def holds(self) -> None:
         """Answers HOLDS."""
         lines = [f"> HOLDS {name} 0 {user['open']}" for name, user in self.users.items()]
+        print("\n".join([*lines, "> DONE"]), flush=True)
+
+    def readers(self) -> None:
+        """Answers FILES."""
+        decks = [(name, *deck) for name, user in self.users.items() for deck in user["decks"]]
+        lines = [f"{name}: FILE {number:04} {text}" for name, number, text in decks]
         print("\n".join([*lines, "> DONE"]), flush=True)
 
     def restore(self) -> None:
@@ -119,7 +132,7 @@ class StandIn:
             sys.stderr.write("fault: memory Memory\n")
             sys.exit(4)
         try:
-            self.users, self.files = json.loads(sys.stdin.buffer.read(size))
+            self.users, self.files, self.decks = json.loads(sys.stdin.buffer.read(size))
         except ValueError:
             sys.exit("fault: state Refused")
         print("> DONE", flush=True)
@@ -143,7 +156,12 @@ def stand_in(words: list[str]) -> None:
         lines = [item for item in findings if not item.startswith("> ")] + program.last_lines()
         sys.stdout.write("".join(f"{line}\n" for line in lines))
         return
-    asked = {b"SAVE\n": program.save, b"STATE\n": program.restore, b"HOLDS\n": program.holds}
+    asked = {
+        b"SAVE\n": program.save,
+        b"STATE\n": program.restore,
+        b"HOLDS\n": program.holds,
+        b"FILES\n": program.readers,
+    }
     while (size := sys.stdin.buffer.readline()) not in (b"", b"END\n"):
         if size in asked:
             asked[size]()

@@ -222,6 +222,11 @@ class Engine:
         for name, entries in self.answered(lambda: self.program.held()).items():
             self.users[name].open = entries * ENTRY_BYTES
 
+    async def readers(self) -> list[str]:
+        """The lines that QUERY FILES shows each user, when all that was given before is done."""
+        ask = lambda: self.answered(lambda: self.program.readers())
+        return await self.loop.run_in_executor(self.thread, ask)
+
     def deal(self) -> list[tuple[Part, PartResult]]:
         """Deals turns in short parts, so that whoever types waits for no more than one of them. If lines went before them for
         long, turns take as long."""

@@ -269,8 +269,16 @@ class Program:
 
     def held(self) -> dict[str, int]:
         """How many entries the open files of each user have."""
+        return self.told(b"HOLDS\n")
+
+    def readers(self) -> list[str]:
+        """The lines that QUERY FILES shows each user."""
+        return self.told(b"FILES\n").events
+
+    def told(self, question: bytes) -> Any:
+        """What is answered to a question that changes nothing."""
         self.expect()
-        self.write(b"HOLDS\n")
+        self.write(question)
         while self.awaited > 1:
             self.answer()
         return self.answer()

@@ -11,7 +11,7 @@ import re
 
 from gathjumli.host import MEGABYTE, is_private, memory_of, size_text
 from gathjumli.backups import Backup
-from gathjumli.cli import Failure, read_file
+from gathjumli.cli import Failure, read_file, reason_text
 from gathjumli.ending import Ending, room_trouble
 from gathjumli.spool_care import NotDone, SpoolCare
 from gathjumli.figures import Data, figures, metrics
@@ -38,6 +38,7 @@ frames             in which frames pages are; what followed the last state is do
 spool              the files that users closed for the operator, the last ones; spool USER his
 hold FILE          moves a written file into the folder held; release FILE moves it back
 purge FILE         removes a written or held file; reprint FILE puts a copy next to it
+readers            the decks in all readers, by their numbers; readers USER those in his
 message TEXT       a line for each terminal; message USER TEXT for one user
 logmsg TEXT        a line for everybody who logs on; logmsg alone shows it, logmsg off ends it
 logon closed       nobody logs on any more, but who is on may come back; logon open ends that
@@ -67,8 +68,15 @@ class Operator:
         self.backup = Backup(installation)
         self.care = SpoolCare(self.engine.printouts, self.engine.users)
         # commands whose answer may take long
-        self.long = {"frames": self.find_frames, "backup": self.make_backup, "reload": self.reload}
+        self.long = {
+            "frames": self.find_frames,
+            "backup": self.make_backup,
+            "readers": self.show_readers,
+            "reload": self.reload,
+        }
         self.reloading = set()
+        # questions to the program that are not answered yet
+        self.asking: set[asyncio.Future] = set()
         self.notify = installation.notify
         self.ending = []
         # if the time of the end is written down, so that the next start knows it
@@ -217,6 +225,22 @@ class Operator:
             end(NOT_DONE)
             return
         self.frames.start(reply, lambda is_done: end(DONE if is_done else NOT_DONE), is_there)
+
+    def show_readers(self, name: str, reply: Any, end: Any, is_there: Any) -> None:
+        """Has the program tell which decks are in readers."""
+        self.asking.add(task := asyncio.ensure_future(self.ask_readers(name, reply, end)))
+        task.add_done_callback(self.asking.discard)
+
+    async def ask_readers(self, name: str, reply: Any, end: Any) -> None:
+        """Shows the decks in all readers, or in that of one user."""
+        try:
+            user = self.named(name).name if name else ""
+            self.care.list_decks(user, await self.engine.readers(), reply)
+        except (NotDone, Failure) as reason:
+            reply(reason_text(reason))
+            end(NOT_DONE)
+            return
+        end(DONE)
 
     def message(self, text: str, reply: Any) -> None:
         """A line for the user whose name is the first word, else for each terminal."""

@@ -75,6 +75,14 @@ class SpoolCare:
             files += [item, *(Copy(copy_name(item, number), item) for number in numbers)]
         return files
 
+    def list_decks(self, name: str, decks: list[str], reply: Callable[[str], None]) -> None:
+        """Shows the first decks in readers, of all users or of one."""
+        found = [deck for deck in decks if not name or deck.startswith(f"{name}: ")]
+        for deck in found[:MOST_SHOWN]:
+            reply(deck)
+        shown = f", the first {MOST_SHOWN} are shown" * (len(found) > MOST_SHOWN)
+        reply(f"{amount(len(found), 'deck')}{shown}")
+
     def state(self, printout: File) -> str:
         """What has become of a file."""
         if not self.printouts.folder or printout.state in UNWRITTEN:

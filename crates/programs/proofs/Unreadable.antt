@@ -104,6 +104,9 @@ seek_line = ((λ e. cc), ((λ e. cc), ((λ e. cc), ((λ e. cc), tt))))
 hold_line : HasNoEnd (codes "HOLDS")
 hold_line = ((λ e. cc), ((λ e. cc), ((λ e. cc), ((λ e. cc), ((λ e. cc), tt)))))
 
+files_line : HasNoEnd (codes "FILES")
+files_line = ((λ e. cc), ((λ e. cc), ((λ e. cc), ((λ e. cc), ((λ e. cc), tt)))))
+
 stop_line : HasNoEnd (codes "END")
 stop_line = ((λ e. cc), ((λ e. cc), ((λ e. cc), tt)))
 
@@ -155,6 +158,8 @@ begins read requests.Save e =
     record { line = codes "SAVE"; rest = []; is = e; none = save_line; short = omega arith }
 begins read requests.Holds e =
     record { line = codes "HOLDS"; rest = []; is = e; none = hold_line; short = omega arith }
+begins read requests.Files e =
+    record { line = codes "FILES"; rest = []; is = e; none = files_line; short = omega arith }
 begins read (requests.View user) h =
     let line = view_line h.0 user h.1 in
     record { line = h.0; rest = []; is = h.2; none = line.1; short = line.0 }
@@ -191,6 +196,7 @@ pub record IsNoWord (word : List ℕ) : Type 0 where
   pub view : (user : ℕ) → IsViewLine word user → ⊥
   pub state : word ≡ codes "STATE" → ⊥
   pub seek : word ≡ codes "SEEK" → ⊥
+  pub files : word ≡ codes "FILES" → ⊥
 
 bad_word_asked : (word more : List ℕ) → HasNoEnd word → decimal_of 9 word ≡ None → IsNoWord word
     → (request : FollowRequest) → IsAsked ((word ++ 10 ∷ []) ++ more) request → ⊥
@@ -203,6 +209,8 @@ bad_word_asked word more none number words requests.Save e =
     words.save (split_same word (codes "SAVE") more [] none save_line (sym (whole word more) ∙ e)).0
 bad_word_asked word more none number words requests.Holds e =
     words.hold (split_same word (codes "HOLDS") more [] none hold_line (sym (whole word more) ∙ e)).0
+bad_word_asked word more none number words requests.Files e =
+    words.files (split_same word (codes "FILES") more [] none files_line (sym (whole word more) ∙ e)).0
 bad_word_asked word more none number words (requests.View user) h =
     let line = view_line h.0 user h.1 in
     let same = (split_same word h.0 more [] none line.1 (sym (whole word more) ∙ h.2)).0 in
@@ -239,6 +247,11 @@ short_part word got size none number less requests.Holds e =
     let no : decimal_of 9 (codes "HOLDS") ≡ Some size = subst (λ (w : List ℕ). decimal_of 9 w ≡ Some size) line number
     in
     cc
+short_part word got size none number less requests.Files e =
+    let line = (split_same word (codes "FILES") got [] none files_line (sym (whole word got) ∙ e)).0 in
+    let no : decimal_of 9 (codes "FILES") ≡ Some size = subst (λ (w : List ℕ). decimal_of 9 w ≡ Some size) line number
+    in
+    cc
 short_part word got size none number less (requests.View user) h =
     let viewed = view_line h.0 user h.1 in
     let line = (split_same word h.0 got [] none viewed.1 (sym (whole word got) ∙ h.2)).0 in
@@ -268,6 +281,10 @@ no_hold : codes "STATE" ≡ codes "HOLDS" → ⊥
 no_hold e =
     let first : 83 ≡ 72 = ap (λ (l : List ℕ). get_or l 0 0) e in omega (arith, first)
 
+no_files : codes "STATE" ≡ codes "FILES" → ⊥
+no_files e =
+    let first : 83 ≡ 70 = ap (λ (l : List ℕ). get_or l 0 0) e in omega (arith, first)
+
 bad_state_asked : (more : List ℕ) → ((bytes : List ℕ) → IsFramed more bytes → ⊥) → (request : FollowRequest)
     → IsAsked ((codes "STATE" ++ 10 ∷ []) ++ more) request → ⊥
 bad_state_asked more unframed (requests.Part part) f =
@@ -280,6 +297,8 @@ bad_state_asked more unframed requests.Save e =
     let line = (split_same (codes "STATE") (codes "SAVE") more [] state_line save_line e).0 in cc
 bad_state_asked more unframed requests.Holds e =
     no_hold (split_same (codes "STATE") (codes "HOLDS") more [] state_line hold_line e).0
+bad_state_asked more unframed requests.Files e =
+    no_files (split_same (codes "STATE") (codes "FILES") more [] state_line files_line e).0
 bad_state_asked more unframed (requests.View user) h =
     let viewed = view_line h.0 user h.1 in
     let line = (split_same (codes "STATE") h.0 more [] state_line viewed.1 h.2).0 in
@@ -302,6 +321,10 @@ seek_no_hold : codes "SEEK" ≡ codes "HOLDS" → ⊥
 seek_no_hold e =
     let first : 83 ≡ 72 = ap (λ (l : List ℕ). get_or l 0 0) e in omega (arith, first)
 
+seek_no_files : codes "SEEK" ≡ codes "FILES" → ⊥
+seek_no_files e =
+    let first : 83 ≡ 70 = ap (λ (l : List ℕ). get_or l 0 0) e in omega (arith, first)
+
 seek_no_save : codes "SEEK" ≡ codes "SAVE" → ⊥
 seek_no_save e =
     let second : 69 ≡ 65 = ap (λ (l : List ℕ). get_or l 1 0) e in omega (arith, second)
@@ -318,6 +341,8 @@ bad_seek_asked more unframed requests.Save e =
     seek_no_save (split_same (codes "SEEK") (codes "SAVE") more [] seek_line save_line e).0
 bad_seek_asked more unframed requests.Holds e =
     seek_no_hold (split_same (codes "SEEK") (codes "HOLDS") more [] seek_line hold_line e).0
+bad_seek_asked more unframed requests.Files e =
+    seek_no_files (split_same (codes "SEEK") (codes "FILES") more [] seek_line files_line e).0
 bad_seek_asked more unframed (requests.View user) h =
     let viewed = view_line h.0 user h.1 in
     let line = (split_same (codes "SEEK") h.0 more [] seek_line viewed.1 h.2).0 in

@@ -1,4 +1,5 @@
--- What an input asks for: parts of a script, states, those of users, what users hold, and the end.
+-- What an input asks for: parts of a script, states, those of users, what users hold, the decks of
+-- their readers, and the end.
 use Rattle.std.specs.Prelude.{◌≡◌, ◌<◌, ◌≤◌, ℕ, List, [], ◌∷◌, ◌++◌, ◌⊎◌, codes, length}
 use Rattle.std.specs.Prelude.{Option, Some, None}
 use Rattle.std.specs.Prelude.{Result, Ok, Err}
@@ -36,12 +37,14 @@ IsViewLine line user = (digits : List ℕ) × (decimal_of 2 digits ≡ Some user
     × (line ≡ codes "VIEW " ++ digits)
 
 -- how a request is read: a part of the script with its size before it, the word that asks for the
--- state or for what users hold, the line that asks for the state of a user, or the word that asks
--- to seek or gives a state, and then a text or that state with its size
+-- state, for what users hold or for the decks of their readers, the line that asks for the state of
+-- a user, or the word that asks to seek or gives a state, and then a text or that state with its
+-- size
 abbrev pub IsAsked : List ℕ → FollowRequest → Type 0
 IsAsked read (requests.Part part) = IsFramed read part.items
 IsAsked read requests.Save = read ≡ word_line (codes "SAVE")
 IsAsked read requests.Holds = read ≡ word_line (codes "HOLDS")
+IsAsked read requests.Files = read ≡ word_line (codes "FILES")
 IsAsked read (requests.View user) = (line : List ℕ) × IsViewLine line user × (read ≡ word_line line)
 IsAsked read (requests.Seek text) = (framed : List ℕ) × IsFramed framed text.items
     × (read ≡ word_line (codes "SEEK") ++ framed)

@@ -9,11 +9,13 @@
 //! The line `END` asks for the end. The line `SAVE` asks for the state of the session: the answer
 //! is a line with its size, its bytes, and the line `> DONE`. The line `HOLDS` asks what users hold:
 //! the answer is a line for each, with the cards of his punch's open file and the lines of his
-//! printer's, and the line `> DONE`. The line `VIEW` with the number of a user asks for what the
-//! state has of him, of the frames and of his storage: the answer is as that to `SAVE`. The line
-//! `SEEK`, a line with a size and these bytes run single units until one has left what is sought:
-//! the answer is the transcript of these units, the line `> FOUND` if it has, and the line `> DONE`.
-//! The line `STATE`, a line with a size and these bytes let the session go on from that state.
+//! printer's, and the line `> DONE`. The line `FILES` asks for the decks of readers: the answer has
+//! the lines that `QUERY FILES` shows each user, and the line `> DONE`. The line `VIEW` with the
+//! number of a user asks for what the state has of him, of the frames and of his storage: the
+//! answer is as that to `SAVE`. The line `SEEK`, a line with a size and these bytes run single
+//! units until one has left what is sought: the answer is the transcript of these units, the line
+//! `> FOUND` if it has, and the line `> DONE`. The line `STATE`, a line with a size and these bytes
+//! let the session go on from that state.
 //!
 //! ```text
 //! 13
@@ -37,8 +39,8 @@ ghost use Rattle.programs.specs.Parts.{IsAnsweredPartly, IsSeekAnsweredPartly};
 ghost use Rattle.programs.specs.Parts.{IsBrokenOff, IsCausedBy, IsLeft, IsStateGiven};
 ghost use Rattle.programs.specs.Parts.{IsPartAnsweredPartly, IsRestoredPartly};
 ghost use Rattle.programs.specs.Parts.{IsSavedAs, IsToldPartly, IsViewedAs, PartAccounts};
-ghost use Rattle.programs.specs.Parts.{done_line, held_text, idle_lines, news_since, seek_lines};
-ghost use Rattle.programs.specs.Parts.{told_state};
+ghost use Rattle.programs.specs.Parts.{done_line, held_text, idle_lines, news_since, readers_text};
+ghost use Rattle.programs.specs.Parts.{seek_lines, told_state};
 
 use crate::faults::Failure;
 use crate::requests::{FollowRequest, NextRequest, next_input};
@@ -106,8 +108,9 @@ pub fn follow_parts<R: HostReader, W: HostWriter, I: Installation + Drop>(
     Err(Failure::File(1))
 }
 
-/// Does what a request asks: a part, to write the state, that of a user or what users hold, or to
-/// go on from a state; writes the answer, flushes the writer and returns the follower after it.
+/// Does what a request asks: a part, to write the state, that of a user, what users hold or the
+/// decks of their readers, or to go on from a state; writes the answer, flushes the writer and
+/// returns the follower after it.
 fn answer<W: HostWriter, I: Installation + Drop>(
     alloc: Global,
     follower: Follower<I>,
@@ -136,6 +139,10 @@ fn answer<W: HostWriter, I: Installation + Drop>(
         }
         FollowRequest::Holds => {
             tell_held(alloc, &follower, writer)?;
+            Ok(follower)
+        }
+        FollowRequest::Files => {
+            tell_readers(alloc, &follower, writer)?;
             Ok(follower)
         }
         FollowRequest::View(user) => {
@@ -237,7 +244,41 @@ fn tell_held<W: HostWriter, I: Installation + Drop>(
         (W.HostFile.failures writer.new) }
 {
     let lines = follower.held(alloc)?;
-    write_all(writer, &lines)?;
+    tell_lines(&lines, writer)
+}
+
+/// Writes the lines that `QUERY FILES` shows each user, and the line `> DONE`, and flushes the
+/// writer.
+fn tell_readers<W: HostWriter, I: Installation + Drop>(
+    alloc: Global,
+    follower: &Follower<I>,
+    writer: &mut W,
+) -> Result<(), Failure>
+    ensures ok { OnOk result (Appends (W.contents writer.old) (W.contents writer.new)
+        (readers_text I.goes follower.now)) }
+    ensures flushed { OnOk result (W.held writer.new ≡ []) }
+    ensures err { OnErr result (AppendsFront (W.contents writer.old) (W.contents writer.new)
+        (readers_text I.goes follower.now)) }
+    ensures cause { IfErr result (IsCausedBy ⊥ ⊥) }
+    ensures why { PartAccounts result (W.HostFile.failures writer.old)
+        (W.HostFile.failures writer.new) }
+{
+    let lines = follower.readers(alloc)?;
+    tell_lines(&lines, writer)
+}
+
+/// Writes lines that answer a question, and the line `> DONE`, and flushes the writer.
+fn tell_lines<W: HostWriter>(lines: &[u8], writer: &mut W) -> Result<(), Failure>
+    ensures ok { OnOk result (Appends (W.contents writer.old) (W.contents writer.new)
+        (lines.now ++ ended (done_line ∷ []))) }
+    ensures flushed { OnOk result (W.held writer.new ≡ []) }
+    ensures err { OnErr result (AppendsFront (W.contents writer.old) (W.contents writer.new)
+        (lines.now ++ ended (done_line ∷ []))) }
+    ensures cause { IfErr result (IsCausedBy ⊥ ⊥) }
+    ensures why { PartAccounts result (W.HostFile.failures writer.old)
+        (W.HostFile.failures writer.new) }
+{
+    write_all(writer, lines)?;
     write_flushed(writer, b"> DONE\n")?;
     Ok(())
 }

@@ -1,4 +1,5 @@
-//! What an input asks for: parts of a script, states, those of users, what users hold, and the end.
+//! What an input asks for: parts of a script, states, those of users, what users hold, the decks of
+//! their readers, and the end.
 ghost use Rattle.std.specs.Prelude.{◌≡◌, ℕ, IfErr, IfNone, IfOk, IfSome, OnErr, Some, length};
 ghost use Rattle.std.specs.Prelude.{option_map};
 ghost use Rattle.std.specs.Io.KnownBytes.{Consumes};
@@ -29,6 +30,8 @@ pub(crate) enum FollowRequest {
     Save,
     /// What users hold by files that they have not closed.
     Holds,
+    /// The decks of the readers of users.
+    Files,
     /// The state of the user of this number.
     View(u32),
     /// That single units are run until what is sought is found.
@@ -48,7 +51,8 @@ pub(crate) enum NextRequest {
 }
 
 /// Reads the next request of an input: a part, for the state, for that of a user, for what users
-/// hold, to seek, to go on from a state, or for the end; or that the input has ended.
+/// hold, for the decks of their readers, to seek, to go on from a state, or for the end; or that
+/// the input has ended.
 pub(crate) fn next_input<R: HostReader>(
     alloc: Global,
     reader: &mut R,
@@ -81,6 +85,9 @@ pub(crate) fn next_input<R: HostReader>(
     }
     if word.as_slice() == b"SEEK".as_slice() {
         return Ok(NextRequest::Asked(FollowRequest::Seek(next_framed(alloc, reader)?)));
+    }
+    if word.as_slice() == b"FILES".as_slice() {
+        return Ok(NextRequest::Asked(FollowRequest::Files));
     }
     Ok(NextRequest::Asked(FollowRequest::Part(next_sized(alloc, reader, &word)?)))
 }

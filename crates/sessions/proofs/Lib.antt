@@ -17,6 +17,7 @@ pub mod Joined
 pub mod UsersKnown
 pub mod Changes
 mod Holding
+mod Queuing
 pub mod SameLines
 mod OneTranscript
 pub mod Told

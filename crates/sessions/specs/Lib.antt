@@ -6,6 +6,7 @@ pub mod Files
 pub mod Session
 pub mod News
 pub mod Held
+pub mod Readers
 pub mod Alike
 pub mod OneTranscript
 pub mod Noted

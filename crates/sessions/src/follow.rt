@@ -16,6 +16,7 @@ ghost use Rattle.sessions.specs.Held.{holds_lines};
 ghost use Rattle.sessions.specs.Installed.{is_stated, names_of};
 ghost use Rattle.sessions.specs.News.{changed_lines, is_idle, modes_of};
 ghost use Rattle.machine_devices.specs.Dropped.{AreDropped, outputs_of};
+ghost use Rattle.sessions.specs.Readers.{reader_lines};
 ghost use Rattle.sessions.specs.Runs.{AppendsScene, IsRestored, IsSceneSaved};
 ghost use Rattle.sessions.specs.Saved.{AppendsUser};
 ghost use Rattle.sessions.specs.Schedule.{Scene};
@@ -31,6 +32,7 @@ use crate::held::held_lines;
 use crate::installation::Installation;
 use crate::known::read_events;
 use crate::news::{mode_change_lines, modes};
+use crate::readers::reader_lines;
 use crate::schedule::{Detail, first_policy, first_ready};
 use crate::seek::{read_seek, seek_units};
 use crate::transcript::names;
@@ -409,6 +411,18 @@ impl<I: Installation + Drop> Follower<I> {
             IfOk result (λ text. text.items ≡ ended (holds_lines seen (length seen.users))) }
     {
         held_lines(alloc, &self.installation)
+    }
+
+    /// Returns the lines that `QUERY FILES` shows each user, each ended by LF.
+    ///
+    /// # Errors
+    ///
+    /// `AllocError` if memory is refused.
+    pub fn readers(&self, alloc: Global) -> Result<Vec<u8>, AllocError>
+        ensures { let seen = I.goes.seen self.now.world in
+            IfOk result (λ text. text.items ≡ ended (reader_lines seen (length seen.users))) }
+    {
+        reader_lines(alloc, &self.installation)
     }
 
     /// Returns a new list of the mode of each user's machine.

@@ -36,6 +36,7 @@ mod joining;
 mod known;
 mod laws;
 mod news;
+mod readers;
 pub mod schedule;
 pub mod seek;
 pub mod session;

@@ -97,7 +97,7 @@ pub(crate) fn names<I: Installation>(
 
 /// Appends a line for each deck of a user's reader, in their order.
 #[tactic(auto, using(crate::proofs::Decks::one_more, crate::proofs::Decks::no_more))]
-fn append_decks<I: Installation>(
+pub(crate) fn append_decks<I: Installation>(
     alloc: Global,
     out: &mut Vec<u8>,
     installation: &I,

@@ -1,18 +1,25 @@
-use Rattle.std.proofs.Common.{◌∙◌, [], ◌∷◌, length, subst}
+use Rattle.std.proofs.Common.{◌∙◌, ◌++◌, [], ◌∷◌, List, ℕ, subst}
 use Rattle.std.specs.Io.KnownBytes.{Appends}
-use Rattle.sessions.specs.Held.{holds_lines}
+use Rattle.s370_num.specs.Host.{AppendsFront}
 use Rattle.sessions.specs.Transcript.{ended}
-use Rattle.sessions.proofs.Histories.{front_after, on_err}
+use Rattle.sessions.proofs.Histories.{err_then, ok_then}
 use Rattle.programs.specs.Parts.{done_line}
 use Rattle.programs.proofs.parts.tell_held.Goals as goal
 
-pub returns-in_err-write_flushed-clause-err : goal.returns-in_err-write_flushed-clause-err
-returns-in_err-write_flushed-clause-err g c =
-    let is = g.W.HostWriter.contents in
-    let seen = g.I.Installation.goes.seen c.args.follower.now.world in
-    on_err c.from_residual-in_err-write_flushed.result
-    (front_after (is c.args.writer.now) (is c.write_all.new.writer) (is c.write_flushed.new.writer)
-    (ended (holds_lines seen (length seen.users))) (ended (done_line ∷ []))
-    (subst (Appends (is c.args.writer.now) (is c.write_all.new.writer))
-    (c.deref.ensures.value ∙ c.in_ok-lines.ensures) c.in_ok-write_all.ensures.ok)
-    c.in_err-write_flushed.ensures.err)
+pub returns-clause-ok : goal.returns-clause-ok
+returns-clause-ok g c =
+    let a = g.W.HostWriter.contents c.args.writer.now in
+    let b = g.W.HostWriter.contents c.tell_lines.new.writer in
+    ok_then c.tell_lines.result
+    (subst (λ (text : List ℕ). Appends a b (text ++ ended (done_line ∷ [])))
+    (c.deref.ensures.value ∙ c.in_ok-lines.ensures))
+    c.tell_lines.ensures.ok
+
+pub returns-clause-err : goal.returns-clause-err
+returns-clause-err g c =
+    let a = g.W.HostWriter.contents c.args.writer.now in
+    let b = g.W.HostWriter.contents c.tell_lines.new.writer in
+    err_then c.tell_lines.result
+    (subst (λ (text : List ℕ). AppendsFront a b (text ++ ended (done_line ∷ [])))
+    (c.deref.ensures.value ∙ c.in_ok-lines.ensures))
+    c.tell_lines.ensures.err
