@@ -17,8 +17,8 @@ returns-clause-unit g c =
     ∙ c.if-is_supervised.false) in
     row_steps m c.args.place.ilc i c.conclude.result c.conclude.new.cpu
     (g.S.Storage.present c.args.storage.now) c.perform_tested-outcome.result m' plain c.requires.carried
-    (subst (λ (p : Place). MeetsRow (row_of m p i) (g.S.Storage.present c.args.storage.now) m c.perform_tested-outcome.result
-    m') c.requires.next c.perform_tested-outcome.ensures.row)
+    (subst (λ (p : Place). MeetsRow (row_of m p i) (g.S.Storage.present c.args.storage.now) m
+    c.perform_tested-outcome.result m') c.requires.next c.perform_tested-outcome.ensures.row)
     (subst (λ (p : Place). stopped c.perform_tested-outcome.result p m'.cpu ≡ record {
       stop = c.conclude.result;
       cpu = c.conclude.new.cpu;
