@@ -1411,7 +1411,7 @@ def try_states(repository: str, folder: str) -> None:
     broken.try_spoiled(check, PROGRAM, broken.STATES, 1)
     growth.try_typed(check, PROGRAM, 50)
     growth.try_closed(check, PROGRAM, 300)
-    any_moment.try_moments(check, repository, PROGRAM, 20)
+    any_moment.try_moments(check, repository, PROGRAM, 60)
     watching.try_event_by_event(check, PROGRAM, f"{folder}/watched")
 
 
