@@ -42,7 +42,7 @@ MOST_STRANGERS = 80
 USER_BYTES = 512
 # lines that the desk is given at once: what they and their answers take fits a pipe
 MOST_PENDING = 16
-# of a line that is not whole so many bytes are kept for a new program of the desk, which are more than one takes
+# how many bytes of an unfinished line are kept for a new program of the desk: more than a line can have
 LONGEST_KEPT = 2048
 # what waits for a reader: he is closed over so many bytes
 MOST_UNREAD = 1 << 20
@@ -195,7 +195,7 @@ class LogonServer:
         self.share = Share()
         self.pending = []
         self.places = {}
-        # the connection that a new program is told of, and what came meanwhile
+        # the connection of which a new program is just told, and what other connections sent while the desk changes its program
         self.moved = None
         self.held = None
         self.serving = set()
@@ -258,7 +258,7 @@ class LogonServer:
             raise
         for user in self.people:
             self.tell_of(user)
-        # of too many strangers one goes, and nobody else
+        # people who are on come first: if there are too many connections, one without a user has to go
         for connection in sorted(self.places.values(), key=lambda one: one.user is None):
             self.move(connection)
         before.kill()

@@ -178,10 +178,10 @@ class Turn:
 def judge(program: Program, made: PlacedState, state: PlacedState, booted: PlacedState) -> None:
     """Refuses a program that has not, by its own answer, each user of a state as he was, and each further one as after a boot."""
     for number in range(len(made.users.starts)):
-        of = state if number < len(state.users.starts) else booted
+        source = state if number < len(state.users.starts) else booted
         answer = whole_of(program.save_user(number))
-        user, storage = made.user(number), of.storage_of(number)
-        is_same = of.user(number) == made.without_more(number, of)
+        user, storage = made.user(number), source.storage_of(number)
+        is_same = source.user(number) == made.without_more(number, source)
         if not (is_same and answer.startswith(user) and answer.endswith(storage)):
             raise Failure(REFUSED, "the program would have other machines")
 
