@@ -291,6 +291,39 @@ def try_disks(check: Check, site: Site) -> None:
     check("it is suspended", site.stop() == 0, *site.findings)
 
 
+def try_decks(check: Check, site: Site) -> None:
+    """A deck that was read in and can't be moved is not read in again, neither after a turn nor after an end."""
+    folder, words = f"{site.folder}/decks", ["--decks", f"{site.folder}/decks"]
+    site.online(*words)
+    check("BOB is on", run(logged_on(site, "BOB", "BUILDER")) == "LOGON OK", *site.findings)
+    # where the folder of decks that were read in should be
+    os.symlink("nowhere", f"{folder}/BOB/done")
+    write(f"{folder}/BOB/text", b"FIRST CARD\n")
+    stays = "; the file is skipped until it changes"
+    check("a deck is read in and stays", site.await_message(stays), *site.findings)
+    write(site.paths[0], DIRECTORY + CAROL)
+    check("a user is added", reload(site).returncode == 0, *site.findings)
+    site.kill(is_all=True)
+    site.online(*words)
+    check("it still stays", site.await_message(stays), *site.findings)
+    check("it ends", operator(site, "end").returncode == 0 and site.ended() == 0, *site.findings)
+    os.unlink(f"{folder}/BOB/done")
+    site.online(*words)
+    check("then it is moved", site.await_message("deck text for BOB: read in"), *site.findings)
+    bob = run(queried(site))
+    check("it was read in once", len([line for line in bob if " FROM " in line]) == 1, *bob)
+    check("it is suspended", site.stop() == 0, *site.findings)
+
+
+async def queried(site: Site) -> list[str]:
+    """What BOB is shown of his files."""
+    bob = await on(site, "BOB", "BUILDER")
+    bob.type("STORE G9 00000001", "QUERY FILES", "DISPLAY G9")
+    await bob.until("GPR 9 = 00000001")
+    bob.go()
+    return bob.lines
+
+
 # --- states that are put together wrongly ---
 
 
@@ -405,6 +438,7 @@ def try_further(
     try_again(check, site)
     try_replays(check, site)
     try_disks(check, site_with_volume(make_site(command, f"{folder}/disks")))
+    try_decks(check, site_with_volume(make_site(command, f"{folder}/decks")))
     for step in TURN_STEPS:
         for is_second in (False, True):
             site = killed_site(command, f"{folder}/{step} {is_second}")

@@ -154,7 +154,9 @@ class Folders:
         """Reads in the files of a user that have not changed since the last round."""
         folder = DeckFolder(os.path.join(self.folder, user))
         try:
-            for file in await in_thread(lambda: list(folder.files())):
+            files = await in_thread(lambda: list(folder.files()))
+            self.forget_moved(user, files)
+            for file in files:
                 key = (user, file.name)
                 found[key] = file.state
                 state = (file.state, folder.changed())
@@ -162,6 +164,13 @@ class Folders:
                     await self.read(folder, file, user)
         finally:
             folder.close()
+
+    def forget_moved(self, user: str, files: list[DeckFile]) -> None:
+        """Forgets decks that were read in and whose files are no longer among these, all of a user's folder."""
+        if len(files) < MOST_FILES:
+            known = self.engine.recording.decks
+            of_user = {mark for mark in known if mark.startswith(mark_of(user))}
+            known.difference_update(of_user - {mark_of(user, file) for file in files})
 
     async def read(self, folder: Any, file: Any, user: Any) -> None:
         """Gives a user the deck of a file, and moves the file. If that fails the reason is reported once, and the file is skipped
@@ -180,7 +189,7 @@ class Folders:
 
     async def give(self, folder: Any, file: Any, user: Any) -> Any:
         """Gives a user the deck of a file, once even if the host crashes before the file is moved; the reason if it is refused."""
-        mark = DECK_READ + b"%s %d %d %d\n" % (user.encode(), *file.state)
+        mark = mark_of(user, file)
         if mark in self.engine.recording.decks:
             return ""
         reason, scripts = await in_thread(self.judged, folder, file, user)
@@ -230,6 +239,11 @@ class Folders:
 async def in_thread(work: Any, *given: Any) -> Any:
     """Does what waits for a disk without keeping anybody waiting."""
     return await asyncio.get_running_loop().run_in_executor(None, work, *given)
+
+
+def mark_of(user: str, file: DeckFile | None = None) -> bytes:
+    """The comment that a user was given the deck of a file, or how all such comments about him begin."""
+    return DECK_READ + user.encode() + (b" %d %d %d\n" % file.state if file else b" ")
 
 
 def state_of(found: Any) -> Any:

@@ -506,7 +506,12 @@ class Recording:
     def succeeding(self, sums: list[str], digits: str) -> bytes:
         """The recording of a session that goes on from the state of this sum, with volumes of these sums."""
         base = [*self.base[:4], *self.volumes_with(sums)]
-        return beginning_with(base, self.next_begun(), digits)
+        return beginning_with(base, self.next_begun(), digits, *self.decks_there())
+
+    def decks_there(self) -> list[bytes]:
+        """The comments about decks that were read in and whose files may still be where they were, for the next session: they are only
+        moved."""
+        return [mark[:-1] for mark in sorted(self.decks)]
 
     def next_begun(self) -> bytes:
         """The line that says when the next session begins: sessions are named by the second."""

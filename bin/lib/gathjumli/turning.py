@@ -142,6 +142,7 @@ class Turn:
         sizes = f"* SIZES {' '.join(self.machines.before[1:-1:2])}".encode()
         base = [*recording.base[:2], directory, sizes, *recording.base[4:]]
         comments = [ADDED + item.encode() for item in self.added.items()]
+        comments += recording.decks_there()
         noted = notes | {"printouts": [], TURNED: recording.name()}
         return self.checkpoint.turn(
             recording,
