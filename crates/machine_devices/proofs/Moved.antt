@@ -1,6 +1,6 @@
 -- A deck that is moved from one reader to another, which may be the same.
-use Rattle.std.proofs.Common.{◌≡◌, ◌∙◌, ℕ, zero, suc, ◌+◌, ◌<◌, ◌≤◌, Bool, true, false, List, [], ◌∷◌, ◌++◌}
-use Rattle.std.proofs.Common.{Option, Some, None, ap, sym, refl, length, drop, cond, arith, subst}
+use Rattle.std.proofs.Common.{◌≡◌, ◌∙◌, ℕ, zero, suc, ◌+◌, ◌<◌, ◌==◌, Bool, true, false, List, [], ◌∷◌, ◌++◌}
+use Rattle.std.proofs.Common.{Option, Some, None, ap, sym, refl, length, drop, cond, arith}
 use Rattle.std.specs.Prelude.{remove}
 use Rattle.std.specs.List.{position_from}
 use Rattle.std.specs.Option.{option_map}
@@ -64,7 +64,7 @@ queued_more : (r : ReaderState) (place : Option ℕ) (decks : List DeckValue) (d
     ≡ Some index) × (index < length decks)
 queued_more r None decks deck id index h = (
   found_more (λ deck. deck.label == id) decks (deck ∷ []) 0 index h,
-  found_inside (λ deck. deck.label == id) decks 0 index h,
+  omega (arith, found_inside (λ deck. deck.label == id) decks 0 index h),
 )
 queued_more r (Some place) [] deck id index h = cc
 queued_more r (Some place) (first ∷ decks) deck id index h = (
