@@ -2,7 +2,7 @@
 use Rattle.std.proofs.Common.{◌≡◌, ◌∙◌, ◌⊎◌, ℕ, ◌+◌, ◌-◌, ◌<◌, ◌==◌, ◌&&◌, Bool, true, false, List, [], ◌∷◌, ◌++◌}
 use Rattle.std.proofs.Common.{length, get_or, set, Option, Some, None, Result, Ok, Err, refl, sym, ap, subst, inl, inr}
 use Rattle.std.proofs.Common.{arith, nat_lt}
-use Rattle.std.specs.Prelude.{◌||◌, slice_get, if◌then◌else◌, IfErr, IsSome, OnErr}
+use Rattle.std.specs.Prelude.{◌||◌, slice_get, if◌then◌else◌, IfErr, OnErr}
 use Rattle.std.specs.Borrow.{Bor}
 use Rattle.std.proofs.lemmas.Bool.{false≢true}
 use Rattle.std.proofs.lemmas.Bool.Decides.{nat_tests}
@@ -40,7 +40,7 @@ use Rattle.cp_spool.specs.Queues.{cards_of}
 use Rattle.machine_devices.specs.Comes.{NeedsMemory, closes, is_cut, is_ipl}
 use Rattle.cp_core.specs.Come.{HasReceived}
 use Rattle.machine_devices.specs.Coming.{comes_by_line, comes_from_operator}
-use Rattle.machine_devices.specs.Spooling.{deck_moved, deck_queued, renumbered, with_deck_purged, with_deck_queued}
+use Rattle.machine_devices.specs.Spooling.{deck_queued, renumbered, with_deck_purged, with_deck_queued}
 use Rattle.machine_devices.proofs.Moved.{none_purged, purged_first, queued_index}
 use Rattle.unit_record.specs.Reader.{DeckValue, queued_at}
 use Rattle.machine_devices.specs.Notes.{closed_by, next_file, note_where, noted, stands_in}
@@ -741,24 +741,6 @@ deck_transferred old middle new user id to found done rest is come got gone lent
         given_back = λ on. absurd (false≢true on);
         brought = λ off. ([], quiet user old.supply new.supply supply, refl);
       };
-    }
-
--- A deck for whose move there is no memory cuts the system short, and stays where it is.
-pub transfer_cut : (old new : SystemView) (user id to : ℕ) (found : DeckValue) → IsBetweenUnits old.supply
-    → deck_queued (user_at old user).devices id ≡ Some found → new ≡ record old { files = new.files }
-    → IsCutShort old (Transfer user id to) new
-transfer_cut old new user id to found rest is left =
-    let supply : new.supply ≡ old.supply = ap (λ (x : SystemView). x.supply) left in
-    record {
-      may = subst IsSome (sym is) tt;
-      roomy = tt;
-      supplied = record {
-        between_before = rest;
-        between = subst IsBetweenUnits (sym supply) rest;
-        given_back = λ on. absurd (false≢true on);
-        brought = λ off. ([], quiet user old.supply new.supply supply, refl);
-      };
-      others = λ u not. ap (λ (x : SystemView). get_or x.users u nobody) left;
     }
 
 -- A list that is counted as empty is empty.
