@@ -73,6 +73,20 @@ def try_care(check: Callable, site: Site) -> None:
     check("it ends", operator(site, "end").returncode == 0 and site.ended() == 0, *site.findings)
 
 
+def try_transfer(check: Callable, site: Site) -> None:
+    """A deck goes to the end of another reader; a wrong wish is refused by its reason, and changes nothing."""
+    answered(check, site, "transfer ALICE 9 BOB", 1, "there is no deck 9 in the reader of ALICE")
+    answered(check, site, "transfer ALICE 1 NOBODY", 1, "there is no user NOBODY")
+    answered(check, site, "transfer ALICE BOB", 1, "transfer USER NUMBER OTHER")
+    answered(check, site, "readers", 0, "ALICE: FILE 0001 FROM SYSTEM CARDS 2", "2 decks")
+    answered(check, site, "transfer alice 0001 bob", 0, "BOB: FILE 0003 FROM SYSTEM CARDS 2")
+    answered(check, site, "transfer ALICE 1 BOB", 1, "there is no deck 1 in the reader of ALICE")
+    told = site.await_message("the operator's command transfer alice 0001 bob is done")
+    check("the journal has it", told, site.since_start())
+    with open(site.record) as file:
+        check("it is an event", "TRANSFER ALICE 1 BOB\n" in file.read())
+
+
 def try_readers(check: Callable, site: Site) -> None:
     """Decks in readers are listed by user, also after a restart."""
     words = ["--operate", f"{site.folder}/operator", "--decks", f"{site.folder}/decks"]
@@ -90,6 +104,10 @@ def try_readers(check: Callable, site: Site) -> None:
         answered(check, site, "readers NOBODY", 1, "there is no user NOBODY")
         check("it is suspended", site.stop() == 0, *site.findings)
         site.online(*words)
+    try_transfer(check, site)
+    check("it is suspended", site.stop() == 0, *site.findings)
+    site.online(*words)
+    answered(check, site, "readers", 0, "BOB: FILE 0003 FROM SYSTEM CARDS 2", "2 decks")
     check("it is suspended", site.stop() == 0, *site.findings)
 
 

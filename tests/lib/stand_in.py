@@ -43,6 +43,8 @@ class StandIn:
                 name, count = rest.split()
                 del lines[: int(count)]
                 self.deck(name, f"FROM SYSTEM CARDS {count}")
+            elif word == "TRANSFER":
+                self.transfer(*rest.split())
             elif word == "AUTO":
                 self.auto(int(rest))
             elif word not in ("", "TICK", "RUN", "SERVE") and not word.startswith("*"):
@@ -56,6 +58,13 @@ class StandIn:
         """A deck comes to a reader."""
         self.decks += 1
         self.users[name]["decks"].append((len(self.files) + self.decks, text))
+
+    def transfer(self, name: str, number: str, other: str) -> None:
+        """A deck that is there goes to the end of another reader, under a new number."""
+        decks = self.users[name]["decks"]
+        if found := [deck for deck in decks if deck[0] == int(number)][:1]:
+            decks.remove(found[0])
+            self.deck(other, found[0][1])
 
     def auto(self, turns: int) -> None:
         running = [name for name, item in self.users.items() if item["mode"] == "RUNS"]

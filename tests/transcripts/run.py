@@ -42,15 +42,15 @@ PARTS = ("vm370", "bare370", "framemap", "mkvol", "trackmap")
 SECOND = ".by-rattle"
 # The tables in the notation of sessions.txt, with how many sessions each has, and what the other parts have: a table that is cut
 # or lost is seen by it.
-SESSIONS = {"sessions": 49, "machines": 2, "slips": 60}
+SESSIONS = {"sessions": 49, "machines": 2, "slips": 66}
 # Those in the notation of program_runs.py, with how many runs each has.
 RUNS = {
     "runs-sessions": 19,
     "runs-volumes": 111,
-    "runs-words": 116,
+    "runs-words": 117,
     "runs-directories": 128,
     "runs-pages": 65,
-    "runs-scripts": 110,
+    "runs-scripts": 119,
     "runs-commands": 94,
     "runs-files": 1,
 }

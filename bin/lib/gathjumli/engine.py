@@ -227,6 +227,16 @@ class Engine:
         ask = lambda: self.answered(lambda: self.program.readers())
         return await self.loop.run_in_executor(self.thread, ask)
 
+    async def transfer(self, line: bytes) -> list[str]:
+        """Has the line of a script done that moves a deck; the decks in readers right after it."""
+        return await self.loop.run_in_executor(self.thread, self.do_transfer, line)
+
+    def do_transfer(self, line: bytes) -> list[str]:
+        self.done(Part(line, is_kept=True))
+        self.recording.settle()
+        self.entries += 1
+        return self.answered(lambda: self.program.readers())
+
     def deal(self) -> list[tuple[Part, PartResult]]:
         """Deals turns in short parts, so that whoever types waits for no more than one of them. If lines went before them for
         long, turns take as long."""

@@ -365,7 +365,7 @@ class Search:
         """What the program is given for an event, part by part, and the moments of the questions in each."""
         event, unit = where
         question = self.asked.question
-        if step.user != self.wanted.user or step.kind == "DECK":
+        if step.user != self.wanted.user or step.kind in ("DECK", "TRANSFER"):
             if stop is None and step.kind != "IDLE":
                 yield [], self.text_of(step, unit)
             return

@@ -23,7 +23,7 @@ DONE, NOT_DONE, ENDS, ENDED = range(4)
 # before all of the recording is done again
 ALWAYS = {"status", "metrics", "help", "suspend"}
 # the commands of operators that the journal notes when they are done
-NOTED = {"hold", "release", "purge", "reprint", "message", "logmsg", "logon", "backup"}
+NOTED = {"hold", "release", "purge", "reprint", "transfer", "message", "logmsg", "logon", "backup"}
 # addresses that one line names
 MOST_NAMED = 8
 WARNED_MINUTES = (10, 5, 1)
@@ -39,6 +39,8 @@ spool              the files that users closed for the operator, the last ones; 
 hold FILE          moves a written file into the folder held; release FILE moves it back
 purge FILE         removes a written or held file; reprint FILE puts a copy next to it
 readers            the decks in all readers, by their numbers; readers USER those in his
+transfer USER NUMBER OTHER
+                   moves a deck that is not being read to the end of another user's reader
 message TEXT       a line for each terminal; message USER TEXT for one user
 logmsg TEXT        a line for everybody who logs on; logmsg alone shows it, logmsg off ends it
 logon closed       nobody logs on any more, but who is on may come back; logon open ends that
@@ -54,6 +56,7 @@ end at HH:MM       ends it then, also after a suspend that ends before; users ar
                    end cancel takes it back
 end logoff         if nobody is on and all printouts are written, ends it without its
                    machines; end logoff now and end logoff at HH:MM do so whoever is on"""
+DECK_NUMBER = re.compile("[0-9]{1,7}")
 ENDS_AT = re.compile(r"(logoff )?at ([01]?\d|2[0-3]):([0-5]\d)")
 
 
@@ -71,7 +74,8 @@ class Operator:
         self.long = {
             "frames": self.find_frames,
             "backup": self.make_backup,
-            "readers": self.show_readers,
+            "readers": lambda *asked: self.ask(self.show_readers, *asked),
+            "transfer": lambda *asked: self.ask(self.transfer, *asked),
             "reload": self.reload,
         }
         self.reloading = set()
@@ -226,21 +230,39 @@ class Operator:
             return
         self.frames.start(reply, lambda is_done: end(DONE if is_done else NOT_DONE), is_there)
 
-    def show_readers(self, name: str, reply: Any, end: Any, is_there: Any) -> None:
-        """Has the program tell which decks are in readers."""
-        self.asking.add(task := asyncio.ensure_future(self.ask_readers(name, reply, end)))
+    def ask(self, question: Any, rest: str, reply: Any, end: Any, is_there: Any) -> None:
+        """Has a command done for which the program is asked."""
+        self.asking.add(task := asyncio.ensure_future(self.asked(question, rest, reply, end)))
         task.add_done_callback(self.asking.discard)
 
-    async def ask_readers(self, name: str, reply: Any, end: Any) -> None:
-        """Shows the decks in all readers, or in that of one user."""
+    async def asked(self, question: Any, rest: str, reply: Any, end: Any) -> None:
         try:
-            user = self.named(name).name if name else ""
-            self.care.list_decks(user, await self.engine.readers(), reply)
+            await question(rest, reply)
         except (NotDone, Failure) as reason:
             reply(reason_text(reason))
             end(NOT_DONE)
             return
         end(DONE)
+
+    async def show_readers(self, name: str, reply: Any) -> None:
+        """Shows the decks in all readers, or in that of one user."""
+        user = self.named(name).name if name else ""
+        self.care.list_decks(user, await self.engine.readers(), reply)
+
+    async def transfer(self, rest: str, reply: Any) -> None:
+        """Moves a deck from one reader to another, and shows it there."""
+        words = rest.split()
+        if len(words) != 3 or not DECK_NUMBER.fullmatch(words[1]):
+            raise NotDone("transfer USER NUMBER OTHER: the number is one that readers shows")
+        user, other = self.named(words[0]).name, self.named(words[2]).name
+        deck = re.compile(f"{user}: FILE 0*{int(words[1])} ")
+        if not any(map(deck.match, await self.engine.readers())):
+            raise NotDone(f"there is no deck {words[1]} in the reader of {user}")
+        line = f"TRANSFER {user} {int(words[1])} {other}\n".encode()
+        after = await self.engine.transfer(line)
+        if any(map(deck.match, after)):
+            raise NotDone(f"the deck {words[1]} is being read, and stays with {user}")
+        reply([shown for shown in after if shown.startswith(f"{other}: ")][-1])
 
     def message(self, text: str, reply: Any) -> None:
         """A line for the user whose name is the first word, else for each terminal."""

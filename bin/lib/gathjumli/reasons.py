@@ -20,6 +20,7 @@ OPERANDS = {
     "SERVE": ["user", "device"],
     "AUTO": ["turns"],
     "DECK": ["user", "cards"],
+    "TRANSFER": ["user", "number", "receiver"],
 }
 STATEMENTS = {
     "USER": "USER name password storage", "CONSOLE": "CONSOLE address 3215", "SPOOL": "SPOOL address READER, PUNCH or PRINTER",
@@ -146,7 +147,8 @@ def wrong_verb(line: Any, first: Any) -> Any:
         )
     return (
         invisible(line)
-        or "a line begins with RUN, LINE, TICK, SERVE, AUTO, DECK or LOAD, and not with " + first
+        or "a line begins with RUN, LINE, TICK, SERVE, AUTO, DECK, TRANSFER or LOAD, and not with "
+        + first
     )
 
 
@@ -174,6 +176,10 @@ def wrong_operands(first: Any, words: list[str], users: Any, lines_after: Any) -
         return f"{wanted[-1]} are a number of at most 7 digits, and not {words[-1]}"
     if first in MOST and not is_number(words[-1], 1, MOST[first]):
         return f"{wanted[-1]} are a number from 1 to {MOST[first]}, and not {words[-1]}"
+    if first == "TRANSFER" and not is_number(words[1], 0, 9999999):
+        return f"the number of a deck has 1 to 7 digits, and is not {words[1]}"
+    if first == "TRANSFER":
+        return users.unknown(words[2])
     if first == "SERVE" and words[1] not in users.devices[words[0]]:
         return users.no_device(*words)
     if first == "DECK":

@@ -44,7 +44,17 @@ TURNS = re.compile(rb"AUTO ([0-9]+)\n")
 TYPED = re.compile(rb"LINE ([A-Z0-9]+) ?(.*)\n")
 STAMP = re.compile(rb"\* (\d{4}-\d\d-\d\d \d\d:\d\d:\d\d) UTC(?: ([0-9a-f]{8}))?\n", re.M)
 STAMPED = re.compile(rb"^" + STAMP.pattern, re.M)
-SCRIPT_WORDS = (b"LINE ", b"AUTO ", b"*", b"DECK ", b"RUN ", b"SERVE ", b"TICK ", b"\n")
+SCRIPT_WORDS = (
+    b"LINE ",
+    b"AUTO ",
+    b"*",
+    b"DECK ",
+    b"TRANSFER ",
+    b"RUN ",
+    b"SERVE ",
+    b"TICK ",
+    b"\n",
+)
 
 
 class StateMark(NamedTuple):

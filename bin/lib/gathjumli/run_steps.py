@@ -7,9 +7,9 @@ from typing import Any, NamedTuple
 
 from gathjumli.tracing import SLICE
 
-KINDS = ("RUN", "LINE", "TICK", "SERVE", "DECK", "IDLE")
+KINDS = ("RUN", "LINE", "TICK", "SERVE", "DECK", "TRANSFER", "IDLE")
 # of the events that are no runs, which bit of a mark on the line of time each has
-MARKED = {"LINE": 1, "SERVE": 2, "TICK": 4, "DECK": 8}
+MARKED = {"LINE": 1, "SERVE": 2, "TICK": 4, "DECK": 8, "TRANSFER": 8}
 NOBODY = 255
 
 

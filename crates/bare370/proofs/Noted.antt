@@ -1,17 +1,19 @@
 -- The files that events of a single machine close are noted with their entries, and stay as they are.
 use Rattle.std.proofs.Common.{◌≡◌, ◌∙◌, ℕ, zero, suc, List, [], ◌∷◌, ◌++◌, ap, append-nil}
-use Rattle.std.proofs.Common.{length, refl, subst, sym}
+use Rattle.std.proofs.Common.{length, refl, subst, sym, Option, Some, None}
 use Rattle.std.specs.Prelude.{slice_get}
 use Rattle.s370_channel.specs.Reading.{as_reached}
-use Rattle.bare_installation.specs.Bare.{Bare, IsTyped, with_deck, world_of}
-use Rattle.bare_installation.specs.Life.{IsAnswer, IsDone, IsGiven, IsRun, IsService, IsTicked}
+use Rattle.bare_installation.specs.Bare.{Bare, IsTyped, deck_moved_on, with_deck, world_of}
+use Rattle.bare_installation.specs.Life.{IsAnswer, IsDone, IsGiven, IsMoved, IsRun, IsService, IsTicked}
 use Rattle.machine_devices.specs.declared.event.Event.{Event}
 use Rattle.machine_devices.specs.declared.event.Event.TheVariants as events
 use Rattle.machine_devices.specs.Coming.{comes_by_line, coming_of}
 use Rattle.machine_devices.specs.Devices.{DevicesValue}
 use Rattle.machine_devices.specs.Equipped.{Equipped}
 use Rattle.machine_devices.specs.Life.{Line as Types, Serve as Serves}
-use Rattle.machine_devices.specs.Notes.{closed_by, deck_noted}
+use Rattle.machine_devices.specs.Notes.{closed_by, deck_noted, move_noted}
+use Rattle.machine_devices.specs.Spooling.{deck_queued}
+use Rattle.unit_record.specs.Reader.{DeckValue}
 use Rattle.machine_devices.specs.declared.files.FileKind.TheVariants as kinds
 use Rattle.machine_devices.specs.declared.files.FileNote.{FileNote}
 use Rattle.machine_devices.specs.declared.reply.Ended.{Ended}
@@ -133,6 +135,28 @@ module _ (a : Alone) where
   given_notes cards old new reply (Served done) h = absurd h
   given_notes cards old new reply FramesOut h = absurd h
 
+  move_notes : (id : ℕ) (found : Option DeckValue) (old : Bare)
+      → Notes old (deck_moved_on id found old) (with_machine (deck_moved_on id found old))
+  move_notes id None old =
+      let d = old.equipped.devices in nothing old old (none_closed d.punched, none_closed d.printed) refl
+  move_notes id (Some deck) old =
+      let d = old.equipped.devices in
+      record {
+        stay = (none_closed d.punched, none_closed d.printed);
+        more = move_noted 0 (Some deck);
+        noted = refl;
+        full = (tt, tt);
+      }
+
+  transfer_notes : (id : ℕ) (old new : Bare) (reply : Reply) (ended : Ended) → IsMoved id old reply ended new
+      → Notes old new (with_machine new)
+  transfer_notes id old new reply Done h =
+      subst (λ (b : Bare). Notes old b (with_machine b)) (sym h.0)
+      (move_notes id (deck_queued old.equipped.devices id) old)
+  transfer_notes id old new reply (Ran ran) h = absurd h
+  transfer_notes id old new reply (Served done) h = absurd h
+  transfer_notes id old new reply FramesOut h = absurd h
+
   done_notes : (event : Event) (old new : Bare) (reply : Reply) → IsDone old event reply new
       → Notes old new (with_machine new)
   done_notes (events.Run user count) old new reply h = run_notes count old new reply reply.ended h
@@ -140,6 +164,7 @@ module _ (a : Alone) where
   done_notes (events.Serve user device) old new reply h = service_notes device old new reply reply.ended h
   done_notes (events.Tick user) old new reply h = tick_notes old new reply reply.ended h
   done_notes (events.Deck user cards) old new reply h = given_notes cards.now old new reply reply.ended h
+  done_notes (events.Transfer user id to) old new reply h = transfer_notes id old new reply reply.ended h
 
 each_stays : (old new : Alone) → FilesStay (mine old) (mine new) → (user : ℕ)
     → FilesStay (user_at (seen_in old) user) (user_at (seen_in new) user)

@@ -65,6 +65,7 @@ module _ (law : OnlyLinesTurn) where
   run_event (events.Tick user) one units old reply new e h = absurd (cc)
   run_event (events.Serve user device) one units old reply new e h = absurd (cc)
   run_event (events.Deck user cards) one units old reply new e h = absurd (cc)
+  run_event (events.Transfer user id to) one units old reply new e h = absurd (cc)
 
   serve_event : (event : Event) (one device : ℕ) (old : Bare) (reply : Reply) (new : Bare)
       → as_said event ≡ Serve one device → IsDone old event reply new
@@ -74,6 +75,7 @@ module _ (law : OnlyLinesTurn) where
   serve_event (events.Tick user) one device old reply new e h = absurd (cc)
   serve_event (events.Serve user served) one device old reply new e h = served_on served old reply reply.ended new h
   serve_event (events.Deck user cards) one device old reply new e h = absurd (cc)
+  serve_event (events.Transfer user id to) one device old reply new e h = absurd (cc)
 
   at_all : (old new : Alone) → is_on new.machine.equipped.machine.mode ≡ is_on old.machine.equipped.machine.mode
       → (user : ℕ) → is_user_on (seen_in new) user ≡ is_user_on (seen_in old) user

@@ -1,5 +1,6 @@
 -- How a machine of its own goes on, as sessions see it.
 use Rattle.std.specs.Prelude.{◌≡◌, ℕ, ◌+◌, ◌<◌, min, false, true, List, [], ◌∷◌, length, map, Some}
+use Rattle.std.specs.Prelude.{IsSome}
 use Rattle.s370_subchannels.specs.declared.subchannel.Subchannel.{Subchannel}
 use Rattle.ckd_volume.specs.Unit.{Disk, idle}
 use Rattle.ckd_volume.specs.Volume.{VolumeFormat}
@@ -9,7 +10,8 @@ use Rattle.machine_devices.specs.Events.{user_of}
 use Rattle.machine_devices.specs.declared.event.Event.{Event}
 use Rattle.machine_devices.specs.declared.places.Places.{Places}
 use Rattle.machine_devices.specs.declared.reply.Reply.{Reply}
-use Rattle.session_script.specs.Script.{EventValue, Run, Line, Tick, Serve, Auto, Deck}
+use Rattle.machine_devices.specs.Spooling.{deck_queued}
+use Rattle.session_script.specs.Script.{EventValue, Run, Line, Tick, Serve, Auto, Deck, Transfer}
 use Rattle.bare_installation.specs.Bare.{Bare, bare, world_of}
 use Rattle.bare_installation.specs.Forgotten.{GoesOnAs as BareGoesOn}
 use Rattle.bare_installation.specs.Life.{IsApplied, LacksMemory, MayLackMemory}
@@ -47,7 +49,8 @@ pub record MayLack (old : Alone) (said : EventValue) (new : Alone) : Type 0 wher
   pub named : as_said event ≡ said
   pub lacks : MayLackMemory old.machine event
 
--- what was said may want memory: such lines, a program that does, and a deck that has cards
+-- what was said may want memory: such lines, a program that does, a deck that has cards, and one
+-- that is moved
 abbrev pub MayRefuse : Alone → EventValue → Type 0
 MayRefuse old (Run user units) = ⊥
 MayRefuse old (Line user text) =
@@ -55,6 +58,7 @@ MayRefuse old (Line user text) =
 MayRefuse old (Tick user) = ⊥
 MayRefuse old (Serve user device) = LacksMemory device old.machine
 MayRefuse old (Deck user cards) = 0 < length cards
+MayRefuse old (Transfer user id to) = IsSome (deck_queued old.machine.equipped.devices id)
 MayRefuse old (Auto turns) = ⊥
 
 -- one machine goes on as another, and its devices have the same addresses

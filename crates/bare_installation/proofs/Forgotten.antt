@@ -16,7 +16,7 @@ use Rattle.machine_devices.specs.Devices.{DevicesValue}
 use Rattle.machine_devices.specs.Equipped.{Equipped}
 use Rattle.machine_devices.specs.Forgotten.{equipped_having_printed}
 use Rattle.machine_devices.specs.Life.{Deck as Gets, Event as Local, Line as Types, Lives}
-use Rattle.machine_devices.specs.Spooling.{deck_punched}
+use Rattle.machine_devices.specs.Spooling.{deck_punched, deck_queued}
 use Rattle.machine_devices.specs.Written.{AreClosedAfter, Lost, devices_having, equipped_having}
 use Rattle.machine_devices.specs.Written.{with_entries}
 use Rattle.machine_devices.specs.declared.files.FileNote.{FileNote}
@@ -32,9 +32,9 @@ use Rattle.machine_devices.proofs.Forgotten as printed
 use Rattle.machine_devices.proofs.Lost.{found_after, lost_twice, with_none, with_twice}
 use Rattle.machine_devices.proofs.Written as written
 use Rattle.machine_devices.proofs.Written.{leaves_stay, length_with}
-use Rattle.bare_installation.specs.Bare.{Bare, IsTyped, with_deck, world_of}
+use Rattle.bare_installation.specs.Bare.{Bare, IsTyped, deck_moved_on, with_deck, world_of}
 use Rattle.bare_installation.specs.Forgotten.{EventsGoOn, GoesOnAs, bare_with, forgotten}
-use Rattle.bare_installation.specs.Life.{IsAnswer, IsApplied, IsDone, IsGiven, IsRun, IsService, IsTicked}
+use Rattle.bare_installation.specs.Life.{IsAnswer, IsApplied, IsDone, IsGiven, IsMoved, IsRun, IsService, IsTicked}
 use Rattle.machine_devices.specs.declared.event.Event.{Event}
 use Rattle.machine_devices.specs.declared.event.Event.TheVariants as events
 
@@ -168,6 +168,19 @@ module _ (gone : List (List ℕ)) (lost : Lost) where
   given_so cards old new reply (Served done) h = absurd h
   given_so cards old new reply FramesOut h = absurd h
 
+  moved_so : (id : ℕ) (found : Option DeckValue) (b : Bare)
+      → wide (deck_moved_on id found b) ≡ deck_moved_on id found (wide b)
+  moved_so id None b = refl
+  moved_so id (Some deck) b = refl
+
+  transfer_so : (id : ℕ) (old new : Bare) (reply : Reply) (ended : Ended) → IsMoved id old reply ended new
+      → IsMoved id (wide old) reply ended (wide new)
+  transfer_so id old new reply Done h =
+      (ap wide h.0 ∙ moved_so id (deck_queued old.equipped.devices id) old, h.1, h.2)
+  transfer_so id old new reply (Ran ran) h = absurd h
+  transfer_so id old new reply (Served done) h = absurd h
+  transfer_so id old new reply FramesOut h = absurd h
+
   done_so : (event : Event) (old new : Bare) (reply : Reply) → IsDone old event reply new
       → IsDone (wide old) event reply (wide new)
   done_so (events.Run user count) old new reply h = run_so count old new reply reply.ended h
@@ -175,6 +188,7 @@ module _ (gone : List (List ℕ)) (lost : Lost) where
   done_so (events.Serve user device) old new reply h = service_so device old new reply reply.ended h
   done_so (events.Tick user) old new reply h = tick_so old new reply reply.ended h
   done_so (events.Deck user cards) old new reply h = given_so cards.now old new reply reply.ended h
+  done_so (events.Transfer user id to) old new reply h = transfer_so id old new reply reply.ended h
 
   applied_so : (old new : Bare) (event : Event) (reply : Reply) → IsApplied old event reply new
       → IsApplied (wide old) event reply (wide new)

@@ -12,14 +12,20 @@ use Rattle.machine_devices.specs.declared.reply.Delivery.TheVariants as deliveri
 use Rattle.machine_devices.specs.declared.reply.Ended.{Ended}
 use Rattle.machine_devices.specs.declared.reply.Ended.TheVariants.{Ran, Served, Done, FramesOut}
 use Rattle.machine_devices.specs.declared.reply.Reply.{Reply}
-use Rattle.machine_devices.specs.Coming.{comes_by_line, comes_from_operator, coming_of}
+use Rattle.machine_devices.specs.Coming.{comes_by_line, comes_by_transfer, comes_from_operator, coming_of}
 use Rattle.machine_devices.specs.Equipped.{Equipped}
 use Rattle.machine_devices.specs.Life.{Event as Local, Units, Serve as Serves, Line as Types, Tick as Ticks}
-use Rattle.machine_devices.specs.Life.{Deck as Gets, Leaves, Lives}
+use Rattle.machine_devices.specs.Life.{Deck as Gets, Purge as Purges, Leaves, Lives}
+use Rattle.machine_devices.specs.Notes.{next_file}
+use Rattle.machine_devices.specs.Replies.{moved}
+use Rattle.machine_devices.specs.Spooling.{deck_queued, renumbered, with_deck_purged, with_deck_queued}
+use Rattle.machine_devices.proofs.Moved.{none_purged}
+use Rattle.unit_record.specs.Reader.{DeckValue}
 use Rattle.machine_devices.specs.declared.event.Event.{Event}
 use Rattle.machine_devices.specs.declared.event.Event.TheVariants as events
-use Rattle.bare_installation.specs.Bare.{Bare, IsTyped, world_of}
-use Rattle.bare_installation.specs.Life.{AttentionAgreesThroughout, EachIsLife, IsDone, IsAnswer, IsGiven, IsRun}
+use Rattle.bare_installation.specs.Bare.{Bare, IsTyped, deck_moved_on, world_of}
+use Rattle.bare_installation.specs.Life.{AttentionAgreesThroughout, EachIsLife, IsDone, IsAnswer, IsGiven, IsMoved}
+use Rattle.bare_installation.specs.Life.{IsRun}
 use Rattle.bare_installation.specs.Life.{IsService, IsTicked, coming, happens, own}
 use Rattle.machine_devices.proofs.Attention.{goes_on_agreeing}
 
@@ -124,12 +130,37 @@ deck_once cards old new reply (Ran ran) h = absurd h
 deck_once cards old new reply (Served done) h = absurd h
 deck_once cards old new reply FramesOut h = absurd h
 
+-- the deck of this number is withdrawn, and what is moved of it comes
+moved_on : (id : ℕ) (found : Option DeckValue) (old : Bare) → deck_queued old.equipped.devices id ≡ found
+    → Lives as_reached (Purges id ∷ [] ++ coming_of (comes_by_transfer id old.equipped)
+    (moved 0 (next_file old.files) found)) old.equipped (deck_moved_on id found old).equipped
+moved_on id None old is = (old.equipped, none_purged id old.equipped is, refl)
+moved_on id (Some deck) old is =
+    let middle : Equipped = record old.equipped { devices = with_deck_purged old.equipped.devices id } in
+    let last = (deck_moved_on id (Some deck) old).equipped in
+    let queued = (λ (o : Option DeckValue).
+    record middle { devices = with_deck_queued middle.devices (renumbered (next_file old.files) o) }) in
+    (middle, refl, (last, ap queued (sym is), refl))
+
+transfer_once : (user id to : ℕ) (old new : Bare) (reply : Reply) (ended : Ended) → IsMoved id old reply ended new
+    → Once old (events.Transfer user id to) reply new
+transfer_once user id to old new reply Done h =
+    let found = deck_queued old.equipped.devices id in
+    subst (λ (x : Option Delivered). Lives as_reached (Purges id ∷ []
+    ++ coming_of (comes_by_transfer id old.equipped) x) old.equipped new.equipped) (sym h.2)
+    (subst (λ (b : Bare). Lives as_reached (Purges id ∷ [] ++ coming_of (comes_by_transfer id old.equipped)
+    (moved 0 (next_file old.files) found)) old.equipped b.equipped) (sym h.0) (moved_on id found old refl))
+transfer_once user id to old new reply (Ran ran) h = absurd h
+transfer_once user id to old new reply (Served done) h = absurd h
+transfer_once user id to old new reply FramesOut h = absurd h
+
 once : (old new : Bare) (event : Event) (reply : Reply) → IsDone old event reply new → Once old event reply new
 once old new (events.Run user count) reply h = run_once user count old new reply reply.ended h
 once old new (events.Line user typed) reply h = line_once typed.now old new reply reply.ended h
 once old new (events.Serve user device) reply h = serve_once user device old new reply reply.ended h
 once old new (events.Tick user) reply h = tick_once user old new reply reply.ended h
 once old new (events.Deck user cards) reply h = deck_once cards.now old new reply reply.ended h
+once old new (events.Transfer user id to) reply h = transfer_once user id to old new reply reply.ended h
 
 -- Each event is a step of the machine's life.
 pub each : EachIsLife

@@ -1,6 +1,6 @@
 -- A machine with its devices, and nobody else: its user is `BARE` (docs/MACHINE.md,
 -- docs/COMMANDS.md).
-use Rattle.std.specs.Prelude.{ℕ, ◌≡◌, Bool, List, [], ◌∷◌, ◌++◌, codes, length}
+use Rattle.std.specs.Prelude.{ℕ, ◌≡◌, Bool, List, [], ◌∷◌, ◌++◌, codes, length, Option, Some, None}
 use Rattle.s370_channel.specs.Reading.{as_reached}
 use Rattle.unit_record.specs.declared.reader.Sender.TheVariants as senders
 use Rattle.unit_record.specs.Reader.{DeckValue}
@@ -9,8 +9,9 @@ use Rattle.machine_devices.specs.declared.reply.Reply.{Reply}
 use Rattle.machine_devices.specs.Coming.{coming_of, comes_by_line}
 use Rattle.machine_devices.specs.Equipped.{Equipped}
 use Rattle.machine_devices.specs.Life.{Lives}
-use Rattle.machine_devices.specs.Notes.{closed_by, deck_noted, next_file}
+use Rattle.machine_devices.specs.Notes.{closed_by, deck_noted, move_noted, next_file}
 use Rattle.machine_devices.specs.Replies.{IsLineTold}
+use Rattle.machine_devices.specs.Spooling.{deck_queued, renumbered, with_deck_purged}
 use Rattle.machine_devices.specs.Spooling.{with_deck_queued}
 use Rattle.machine_devices.specs.UserDirectory.{UserDirectory, is_logged_on}
 
@@ -57,3 +58,22 @@ with_deck (card ∷ cards) i =
       equipped = record i.equipped { devices = with_deck_queued i.equipped.devices deck };
       files = i.files ++ deck_noted 0 (card ∷ cards);
     }
+
+-- ---- a deck that the operator moves from its reader to the same reader
+
+-- the machine with the deck of this number, which is there, at the end of the queue
+abbrev pub deck_moved_on : ℕ → Option DeckValue → Bare → Bare
+deck_moved_on id None i = i
+deck_moved_on id (Some deck) i =
+    let left = with_deck_purged i.equipped.devices id in
+    record {
+      equipped = record
+          i.equipped {
+            devices = with_deck_queued left (renumbered (next_file i.files) (Some deck));
+          };
+      files = i.files ++ move_noted 0 (Some deck);
+    }
+
+-- it has the number after the last; a deck that is not queued is not moved
+abbrev pub with_deck_moved : ℕ → Bare → Bare
+with_deck_moved id i = deck_moved_on id (deck_queued i.equipped.devices id) i

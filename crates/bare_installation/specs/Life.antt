@@ -1,27 +1,29 @@
 -- What an event does to a machine with its devices, and how its life is made of what happens to it
 -- alone.
-use Rattle.std.specs.Prelude.{ℕ, ◌≡◌, ◌<◌, ◌-◌, true, List, [], ◌∷◌, ◌++◌, length, None}
+use Rattle.std.specs.Prelude.{ℕ, ◌≡◌, ◌<◌, ◌-◌, true, List, [], ◌∷◌, ◌++◌, length, None, IsSome}
 use Rattle.s370_channel.specs.declared.running.ChannelError.TheVariants as errors
 use Rattle.s370_channel.specs.Reading.{as_reached}
 use Rattle.machine_panel.specs.Run.{notice_of, run}
 use Rattle.machine_panel.specs.Tick.{ticked}
 use Rattle.machine_devices.specs.Comes.{LineMay}
 use Rattle.machine_devices.specs.Attention.{AttentionAgrees}
-use Rattle.machine_devices.specs.Coming.{comes_by_line, comes_from_operator, coming_of}
+use Rattle.machine_devices.specs.Coming.{comes_by_line, comes_by_transfer, comes_from_operator}
+use Rattle.machine_devices.specs.Coming.{coming_of}
 use Rattle.machine_devices.specs.declared.reply.UserResponse.TheVariants.{Nothing}
 use Rattle.machine_devices.specs.declared.reply.Delivery.{Delivery}
 use Rattle.machine_devices.specs.declared.reply.Ended.{Ended}
 use Rattle.machine_devices.specs.declared.reply.Ended.TheVariants.{Ran, Served, Done}
 use Rattle.machine_devices.specs.declared.reply.Reply.{Reply}
 use Rattle.machine_devices.specs.Life.{Event as Local, Units, Serve as Serves, Line as Types}
-use Rattle.machine_devices.specs.Life.{Tick as Ticks, Lives}
+use Rattle.machine_devices.specs.Life.{Tick as Ticks, Purge as Purges, Lives}
 use Rattle.machine_devices.specs.Notes.{next_file}
-use Rattle.machine_devices.specs.Replies.{given, saying}
+use Rattle.machine_devices.specs.Replies.{given, moved, saying}
+use Rattle.machine_devices.specs.Spooling.{deck_queued}
 use Rattle.machine_devices.specs.Serve.{IsServedAt}
 use Rattle.machine_devices.specs.Stopped.{StopsAt}
 use Rattle.machine_devices.specs.declared.event.Event.{Event}
 use Rattle.machine_devices.specs.declared.event.Event.TheVariants as events
-use Rattle.bare_installation.specs.Bare.{Bare, IsTyped, with_deck, world_of}
+use Rattle.bare_installation.specs.Bare.{Bare, IsTyped, with_deck, with_deck_moved, world_of}
 
 -- ---- what an event leaves, and what is reported
 
@@ -72,6 +74,13 @@ IsGiven cards old reply Done new =
     × (reply.delivered ≡ given 0 (next_file old.files) cards)
 IsGiven cards old reply other new = ⊥
 
+-- a deck that is moved, and its reply
+abbrev pub IsMoved : ℕ → Bare → Reply → Ended → Bare → Type 0
+IsMoved id old reply Done new =
+    (new ≡ with_deck_moved id old) × (reply.said ≡ Nothing)
+    × (reply.delivered ≡ moved 0 (next_file old.files) (deck_queued old.equipped.devices id))
+IsMoved id old reply other new = ⊥
+
 -- each event ends in its own way
 abbrev pub IsDone : Bare → Event → Reply → Bare → Type 0
 IsDone old (events.Run user count) reply new = IsRun count old reply reply.ended new
@@ -79,6 +88,7 @@ IsDone old (events.Line user typed) reply new = IsAnswer typed.now old reply rep
 IsDone old (events.Serve user device) reply new = IsService device old reply reply.ended new
 IsDone old (events.Tick user) reply new = IsTicked old reply reply.ended new
 IsDone old (events.Deck user cards) reply new = IsGiven cards.now old reply reply.ended new
+IsDone old (events.Transfer user id to) reply new = IsMoved id old reply reply.ended new
 
 -- and the reply says how many lines have joined the console
 pub record IsApplied (old : Bare) (event : Event) (reply : Reply) (new : Bare) : Type 0 where
@@ -93,7 +103,7 @@ abbrev pub LacksMemory : ℕ → Bare → Type 0
 LacksMemory device old = StopsAt as_reached (λ page. true) device old.equipped errors.Memory
 
 -- a run and a tick take no memory; a line takes some only where one to a machine with devices may,
--- and cards where there are any
+-- cards where there are any, and a deck that is moved where it is queued
 abbrev pub MayLackMemory : Bare → Event → Type 0
 MayLackMemory old (events.Run user count) = ⊥
 MayLackMemory old (events.Line user typed) =
@@ -101,6 +111,7 @@ MayLackMemory old (events.Line user typed) =
 MayLackMemory old (events.Serve user device) = LacksMemory device old
 MayLackMemory old (events.Tick user) = ⊥
 MayLackMemory old (events.Deck user cards) = 0 < length cards.now
+MayLackMemory old (events.Transfer user id to) = IsSome (deck_queued old.equipped.devices id)
 
 -- ---- one event after another
 
@@ -126,6 +137,7 @@ happens old (events.Line user typed) = Types (world_of old) typed.now ∷ []
 happens old (events.Serve user device) = Serves device ∷ []
 happens old (events.Tick user) = Ticks ∷ []
 happens old (events.Deck user cards) = []
+happens old (events.Transfer user id to) = Purges id ∷ []
 
 -- the file that the punch closed is the first after those of before
 abbrev pub coming : Bare → Event → Bare → Delivery → Local
@@ -135,6 +147,7 @@ coming old (events.Deck user cards) left = comes_from_operator cards.now
 coming old (events.Run user count) left = comes_from_operator []
 coming old (events.Serve user device) left = comes_from_operator []
 coming old (events.Tick user) left = comes_from_operator []
+coming old (events.Transfer user id to) left = comes_by_transfer id old.equipped
 
 -- the events of the machine itself, in order
 abbrev pub own : Bare → List Step → List Local

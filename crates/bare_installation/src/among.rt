@@ -4,6 +4,7 @@ ghost use Rattle.std.specs.Prelude.{◌≡◌, IfOk, OnOk};
 ghost use Rattle.s370_channel.specs.Reading.{as_reached};
 ghost use Rattle.cp_console.specs.ConsoleLine.{characters_of};
 ghost use Rattle.machine_devices.specs.Life.{Deck as Gets, Leaves, Message as Hears};
+ghost use Rattle.machine_devices.specs.Life.{Purge as Purges};
 ghost use Rattle.machine_devices.specs.Lines.{IsLine};
 
 use crate::bare::Bare;
@@ -57,6 +58,14 @@ impl Bare {
         ensures files { self.new.files ≡ self.old.files }
     {
         self.devices.deck(&mut self.queues, number, sender, cards)
+    }
+
+    /// Withdraws the deck of this number from the queue of the reader, unless it is current.
+    pub fn withdraw(&mut self, id: u64)
+        ensures left { Leaves as_reached (Purges id) self.old.equipped self.new.equipped }
+        ensures files { self.new.files ≡ self.old.files }
+    {
+        self.devices.purge(&mut self.queues, id);
     }
 
     /// Appends a message as a whole line to those that the console has printed.

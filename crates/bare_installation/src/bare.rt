@@ -1,6 +1,7 @@
 //! A machine with its devices, and nobody else.
 ghost use Rattle.std.specs.Prelude.{Err, IsOk, None, false, map, ◌++◌, ◌≡◌, ◌-◌, ◌<◌, ◌≤◌, ◌^◌, []};
-ghost use Rattle.std.specs.Prelude.{List, Option, true, IfOk, OnErr, OnOk, length, slice_get};
+ghost use Rattle.std.specs.Prelude.{List, Option, true, IfOk, IsSome, OnErr, OnOk, length};
+ghost use Rattle.std.specs.Prelude.{slice_get};
 ghost use Rattle.std.specs.Option.{option_map};
 ghost use Rattle.s370_store.specs.Plain.{plain_bytes, plain_memory};
 ghost use Rattle.s370_channel.specs.Reading.{as_reached};
@@ -15,9 +16,10 @@ ghost use Rattle.machine_devices.specs.Devices.{places_of};
 ghost use Rattle.machine_devices.specs.declared.attaching.AttachError.TheVariants as errors;
 ghost use Rattle.machine_devices.specs.Lent.{devices_on};
 ghost use Rattle.machine_devices.specs.Notes.{next_file};
-ghost use Rattle.machine_devices.specs.Replies.{given};
+ghost use Rattle.machine_devices.specs.Replies.{given, moved};
 ghost use Rattle.machine_devices.specs.Serve.{IsServedAt};
-ghost use Rattle.bare_installation.specs.Bare.{with_deck};
+ghost use Rattle.machine_devices.specs.Spooling.{deck_queued};
+ghost use Rattle.bare_installation.specs.Bare.{with_deck, with_deck_moved};
 ghost use Rattle.bare_installation.specs.Life.{AttentionAgreesThroughout, EachIsLife, IsApplied};
 ghost use Rattle.bare_installation.specs.Life.{LacksMemory, MayLackMemory};
 
@@ -200,6 +202,7 @@ impl Bare {
                 Ok(self.reply(printed, Ended::Done, UserResponse::Nothing))
             }
             Event::Deck(_, cards) => self.give(alloc, cards),
+            Event::Transfer(_, id, _) => self.transfer(alloc, id),
         }
     }
 
@@ -243,6 +246,46 @@ impl Bare {
             return Ok(self.reply(printed, Ended::Done, UserResponse::Nothing));
         }
         self.deck(copy_of(alloc, cards)?)?;
+        let reply = self.reply(printed, Ended::Done, UserResponse::Nothing);
+        Ok(Reply {
+            delivered: Some(Delivered {
+                to: UserNo::new(0),
+                what: Delivery::Deck(number),
+            }),
+            ..reply
+        })
+    }
+
+    /// Moves the deck of this number, unless it is current, to the end of the reader's queue, as a
+    /// deck with the next number, and returns the reply; without such a deck it does nothing.
+    ///
+    /// If memory is refused, nothing is said of the machine.
+    fn transfer(&mut self, alloc: Global, id: u64) -> Result<Reply, AllocError>
+        ensures after { OnOk result (self.new ≡ with_deck_moved id self.old) }
+        ensures reply { IfOk result
+            (λ reply. reply ≡ record {
+              ended = Ended.Done;
+              said = UserResponse.Nothing;
+              lines = length self.new.equipped.machine.output - length
+                  self.old.equipped.machine.output;
+              delivered = moved 0 (next_file self.old.files)
+                  (deck_queued self.old.equipped.devices id);
+            }) }
+        ensures memory { OnErr result (IsSome (deck_queued self.old.equipped.devices id)) }
+    {
+        let printed = self.printed();
+        let number = self.next_file();
+        let devices = self.devices();
+        let Some(deck) = devices.queued(id) else {
+            return Ok(self.reply(printed, Ended::Done, UserResponse::Nothing));
+        };
+        let (sender, cards) = (deck.sender(), deck.to_vec(alloc)?);
+        self.devices.purge(&mut self.queues, id);
+        self.devices.deck(&mut self.queues, number, sender, cards)?;
+        self.files.push(FileNote {
+            user: UserNo::new(0),
+            kind: FileKind::Deck,
+        })?;
         let reply = self.reply(printed, Ended::Done, UserResponse::Nothing);
         Ok(Reply {
             delivered: Some(Delivered {

@@ -24,12 +24,12 @@ use Rattle.machine_devices.specs.Forgotten.{unprinted}
 use Rattle.machine_devices.specs.Lent.{devices_with}
 use Rattle.machine_devices.specs.Life.{Event as Local, Deck as Gets, Line as Types, Lives}
 use Rattle.machine_devices.specs.Lines.{KindLoads, requested}
-use Rattle.machine_devices.specs.Notes.{closed_by, next_file}
-use Rattle.machine_devices.specs.Replies.{IsLineTold}
+use Rattle.machine_devices.specs.Notes.{closed_by, move_noted, next_file}
+use Rattle.machine_devices.specs.Replies.{IsLineTold, moved}
 use Rattle.machine_devices.specs.Comes.{LoadWants}
 use Rattle.machine_devices.specs.Requests.{needs_of, switches}
 use Rattle.machine_devices.specs.Serve.{IsServedAt, StartNeeds}
-use Rattle.machine_devices.specs.Spooling.{deck_punched}
+use Rattle.machine_devices.specs.Spooling.{deck_moved, deck_punched, deck_queued}
 use Rattle.machine_devices.specs.UserDirectory.{UserDirectory, is_logged_on}
 use Rattle.machine_devices.specs.declared.files.FileNote.{FileNote}
 use Rattle.machine_devices.specs.declared.places.AttachedDevice.{AttachedDevice}
@@ -71,10 +71,11 @@ use Rattle.cp_spool.specs.Queues.{QueuesValue, UserFiles, cards_of, files_of}
 use Rattle.cp_volumes.specs.Shared.{Placement, placements_of}
 use Rattle.ckd_volume.specs.Volume.{VolumeFormat}
 use Rattle.cp_core.specs.LineOutcome.{IsOut, IsReply, TellsOf, TellsOfDeck, TellsOfLine, TellsOfRun, TellsOfServe}
-use Rattle.cp_core.specs.LineOutcome.{TellsOfTick, noted_by}
+use Rattle.cp_core.specs.LineOutcome.{TellsOfTick, TellsOfTransfer, noted_by}
 use Rattle.cp_core.specs.Wants.{DeviceNeeds, LineWants}
 use Rattle.machine_devices.specs.declared.event.Event.{Event}
 use Rattle.machine_devices.specs.declared.event.Event.TheVariants.{Run, Line, Tick, Deck, Serve}
+use Rattle.machine_devices.specs.declared.event.Event.TheVariants.{Transfer}
 
 -- ---- what is gone of a user
 
@@ -254,6 +255,7 @@ module _ (gone : List Gone) (s : SystemView) (kept : List ReuseValue) (t : Syste
   event_same (Tick user) ended = refl
   event_same (Deck user cards) ended = refl
   event_same (Serve user device) ended = refl
+  event_same (Transfer user id to) ended = refl
 
   -- closed files of a user have stayed
   abbrev FilesStay : Type 0
@@ -275,6 +277,8 @@ module _ (gone : List Gone) (s : SystemView) (kept : List ReuseValue) (t : Syste
   deck_same stay (Tick user) number = refl
   deck_same stay (Deck user cards) number = refl
   deck_same stay (Serve user device) number = refl
+  deck_same stay (Transfer user id to) number =
+      ap (λ (e : Equipped). deck_moved e.devices id number) (old_is user)
 
   coming_same : FilesStay → (event : Event) (reply : Reply) (what : Delivery)
       → (let one : Step = record { event = event; reply = reply; seen = left } in
@@ -381,6 +385,17 @@ module _ (gone : List Gone) (s : SystemView) (kept : List ReuseValue) (t : Syste
   deck_tells user cards reply Done tells = tells
   deck_tells user cards reply FramesOut tells = tells
 
+  transfer_tells : (user id to : ℕ) (reply : Reply) (ended : Ended)
+      → TellsOfTransfer user id to s reply ended → TellsOfTransfer user id to whole reply ended
+  transfer_tells user id to reply (Ran ran) tells = tells
+  transfer_tells user id to reply (Served done) tells = tells
+  transfer_tells user id to reply Done tells = (
+    tells.0,
+    tells.1 ∙ sym
+        (ap (λ (e : Equipped). moved to (next_file s.files) (deck_queued e.devices id)) (old_is user)),
+  )
+  transfer_tells user id to reply FramesOut tells = tells
+
   serve_tells : (user device : ℕ) (reply : Reply) (ended : Ended) → TellsOfServe user device s reply ended t
       → TellsOfServe user device whole reply ended left
   serve_tells user device reply (Ran ran) tells = tells
@@ -402,6 +417,7 @@ module _ (gone : List Gone) (s : SystemView) (kept : List ReuseValue) (t : Syste
   tells_too (Tick user) reply tells = tick_tells user reply reply.ended tells
   tells_too (Deck user cards) reply tells = deck_tells user cards.now reply reply.ended tells
   tells_too (Serve user device) reply tells = serve_tells user device reply reply.ended tells
+  tells_too (Transfer user id to) reply tells = transfer_tells user id to reply reply.ended tells
 
   notes_same : (event : Event) → noted_by event s t ≡ noted_by event whole left
   notes_same (Run user asked) = refl
@@ -410,6 +426,8 @@ module _ (gone : List Gone) (s : SystemView) (kept : List ReuseValue) (t : Syste
   notes_same (Tick user) = refl
   notes_same (Deck user cards) = refl
   notes_same (Serve user device) = refl
+  notes_same (Transfer user id to) =
+      sym (ap (λ (e : Equipped). move_noted to (deck_queued e.devices id)) (old_is user))
 
   lines_told : (user lines : ℕ) → lines ≡ length (machine_at t user).output - length (machine_at s user).output
       → lines ≡ length (machine_at left user).output - length (machine_at whole user).output
@@ -437,6 +455,7 @@ module _ (gone : List Gone) (s : SystemView) (kept : List ReuseValue) (t : Syste
   gives_same (Tick user) = refl
   gives_same (Deck user cards) = refl
   gives_same (Serve user device) = refl
+  gives_same (Transfer user id to) = refl
 
   run_brings : (lines : List (List ℕ)) (m : Machine) (ended : Ended) (units : List (List ℕ)) → RunBrings m ended units
       → RunBrings (record m { output = lines }) ended units
@@ -458,6 +477,7 @@ module _ (gone : List Gone) (s : SystemView) (kept : List ReuseValue) (t : Syste
   brings_too (Tick user) ended units may =
       (of_old user (λ (e : Equipped). OneBrings (TickNeeds e.machine) units) may.0, may.1)
   brings_too (Deck user cards) ended units may = may
+  brings_too (Transfer user id to) ended units may = may
   brings_too (Serve user device) ended units may =
       let brings = λ (needs : ℕ → Type 0). AreNeeded needs serve_times units in
       let here = device_needs_same (gone_of user) (user_at s user) device brings may in

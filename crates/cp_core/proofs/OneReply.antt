@@ -19,6 +19,7 @@ use Rattle.machine_panel.specs.Machine.{Machine}
 use Rattle.machine_panel.specs.Run.{MachineRun, TellsFor, notice_of, run}
 use Rattle.machine_devices.specs.declared.event.Event.{Event}
 use Rattle.machine_devices.specs.declared.event.Event.TheVariants.{Run, Line, Tick, Deck, Serve}
+use Rattle.machine_devices.specs.declared.event.Event.TheVariants.{Transfer}
 use Rattle.machine_devices.specs.declared.files.FileNote.{FileNote}
 use Rattle.machine_devices.specs.declared.line.LineOutcome.{LineOutcome}
 use Rattle.machine_devices.specs.declared.line.LineOutcome.TheVariants.{Sent}
@@ -36,15 +37,16 @@ use Rattle.machine_devices.proofs.SameEvent.{of_same}
 use Rattle.machine_devices.specs.Life.{Event as Local, Leaves, Lives}
 use Rattle.machine_devices.specs.Life.{Deck as Gets, Line as Types, Message as Hears}
 use Rattle.machine_devices.specs.Lines.{IsLine}
-use Rattle.machine_devices.specs.Notes.{closed_by, deck_noted, next_file}
+use Rattle.machine_devices.specs.Notes.{closed_by, deck_noted, move_noted, next_file}
 use Rattle.machine_devices.specs.OneLife.{LinesAreOne, LivesAreOne}
 use Rattle.machine_devices.specs.OneReply.{DeliverAlike, HadFrames, IsOneOutcome, IsOneReply, OutcomesAreOne, SendAlike}
-use Rattle.machine_devices.specs.Replies.{IsLineTold, delivered_by, delivery_to, given, said_to_line, saying}
+use Rattle.machine_devices.specs.Replies.{IsLineTold, delivered_by, delivery_to, given, moved, said_to_line, saying}
+use Rattle.machine_devices.specs.Spooling.{deck_moved, deck_queued}
 use Rattle.machine_devices.specs.Serve.{IsServedAt, Serves}
 use Rattle.machine_devices.specs.UserDirectory.{UserDirectory}
 use Rattle.cp_core.specs.Histories.{IsHistory, IsReplied, IsStep}
 use Rattle.cp_core.specs.LineOutcome.{TellsOf, TellsOfDeck, TellsOfLine, TellsOfRun, TellsOfServe, TellsOfTick}
-use Rattle.cp_core.specs.LineOutcome.{noted_by}
+use Rattle.cp_core.specs.LineOutcome.{TellsOfTransfer, noted_by}
 use Rattle.cp_core.specs.Local.{Step, comes_to, coming, deck_by, line_of, local, local_event, own_part}
 use Rattle.cp_core.specs.OneReply.{AllHadFrames, AreOneReplies, HistoriesAreOne, IsAlikeTo, LookAlike}
 use Rattle.cp_core.specs.OneReply.{RepliesAreOne}
@@ -130,6 +132,24 @@ deck_one user cards one other p q (Ran a) f pe qe n l r = absurd l
 deck_one user cards one other p q (Served d) f pe qe n l r = absurd l
 deck_one user cards one other p q FramesOut f pe qe n l r = absurd l
 
+transfer_one : (user id to : ℕ) (one other : SystemView) (p q : Reply) (e f : Ended) → p.ended ≡ e → q.ended ≡ f
+    → next_file other.files ≡ next_file one.files → user_at other user ≡ user_at one user
+    → TellsOfTransfer user id to one p e → TellsOfTransfer user id to other q f → SayAlike p q
+transfer_one user id to one other p q Done Done pe qe n m l r = record {
+  ended = same p.ended q.ended Done pe qe;
+  said = same p.said q.said _ l.0 r.0;
+  delivered = inl (r.1
+      ∙ ap (λ (x : ℕ). moved to x (deck_queued (user_at other user).devices id)) n
+      ∙ ap (λ (x : Equipped). moved to (next_file one.files) (deck_queued x.devices id)) m
+      ∙ sym l.1);
+}
+transfer_one user id to one other p q Done (Ran b) pe qe n m l r = absurd r
+transfer_one user id to one other p q Done (Served d) pe qe n m l r = absurd r
+transfer_one user id to one other p q Done FramesOut pe qe n m l r = absurd r
+transfer_one user id to one other p q (Ran a) f pe qe n m l r = absurd l
+transfer_one user id to one other p q (Served d) f pe qe n m l r = absurd l
+transfer_one user id to one other p q FramesOut f pe qe n m l r = absurd l
+
 -- ---- a serve
 
 serves_flag : (k : Option AttachedDevice) (start : Option Caw) (device : ℕ) (old a b : Equipped) (done did : Bool)
@@ -167,6 +187,7 @@ users_same = of_same (λ one other. user_of other ≡ user_of one) (record {
   tick = λ user. refl;
   deck = λ user cards deck e. refl;
   serve = λ user device. refl;
+  transfer = λ user id to. refl;
 })
 
 locals_same : (old : SystemView) (e : Ended) (one other : Event) → IsSameEvent one other
@@ -177,6 +198,7 @@ locals_same old e = of_same (λ one other. local_event old other e ≡ local_eve
   tick = λ user. refl;
   deck = λ user cards deck same. refl;
   serve = λ user device. refl;
+  transfer = λ user id to. refl;
 })
 
 decks_same : (old seen : SystemView) (number : ℕ) (one other : Event) → IsSameEvent one other
@@ -189,6 +211,7 @@ decks_same old seen number =
       deck = λ user cards deck same.
           ap (λ (cs : List (List ℕ)). record { label = number; sender = senders.System; cards = cs }) same;
       serve = λ user device. refl;
+      transfer = λ user id to. refl;
     })
 
 notes_same : (old seen : SystemView) (one other : Event) → IsSameEvent one other
@@ -199,6 +222,7 @@ notes_same old seen = of_same (λ one other. noted_by other old seen ≡ noted_b
   tick = λ user. refl;
   deck = λ user cards deck same. ap (λ (cs : List (List ℕ)). deck_noted user cs) same;
   serve = λ user device. refl;
+  transfer = λ user id to. refl;
 })
 
 tells_same : (old seen : SystemView) (reply : Reply) (one other : Event) → IsSameEvent one other
@@ -209,6 +233,7 @@ tells_same old seen reply = of_same (λ one other. TellsOf old other reply seen 
   tick = λ user h. h;
   deck = λ user cards deck same h. subst (λ (cs : List (List ℕ)). TellsOfDeck user cs old reply reply.ended) same h;
   serve = λ user device h. h;
+  transfer = λ user id to h. h;
 })
 
 -- ---- what comes to a user
@@ -322,6 +347,8 @@ module _ (lives : LivesAreOne) (lines : LinesAreOne) (outcomes : OutcomesAreOne)
       deck_one user cards.now one other p q p.ended q.ended refl refl h.number l r
   tells_one (Serve user device) one other s t p q h l r had has =
       serve_one user device one other s t p q p.ended q.ended refl refl h.machine l r had has
+  tells_one (Transfer user id to) one other s t p q h l r had has =
+      transfer_one user id to one other p q p.ended q.ended refl refl h.number h.machine l r
 
   -- ---- what a step is to each user
 
@@ -337,6 +364,7 @@ module _ (lives : LivesAreOne) (lines : LinesAreOne) (outcomes : OutcomesAreOne)
   local_one (Tick user) one other e w = refl
   local_one (Deck user cards) one other e w = refl
   local_one (Serve user device) one other e w = refl
+  local_one (Transfer user id to) one other e w = refl
 
   own_one : (v : ℕ) (one other : SystemView) (step twin : Step) → IsSameEvent step.event twin.event
       → twin.reply.ended ≡ step.reply.ended
@@ -370,6 +398,8 @@ module _ (lives : LivesAreOne) (lines : LinesAreOne) (outcomes : OutcomesAreOne)
   deck_by_one (Tick user) one other s t number m p = refl
   deck_by_one (Deck user cards) one other s t number m p = refl
   deck_by_one (Serve user device) one other s t number m p = refl
+  deck_by_one (Transfer user id to) one other s t number m p =
+      ap (λ (x : Equipped). deck_moved x.devices id number) m
 
   module _ (one other : SystemView) (step twin : Step) (event : IsSameEvent step.event twin.event)
       (alike : IsAlikeTo (user_of step.event) one other) where
@@ -478,6 +508,8 @@ module _ (lives : LivesAreOne) (lines : LinesAreOne) (outcomes : OutcomesAreOne)
   noted_one (Tick user) one other s t m n = refl
   noted_one (Deck user cards) one other s t m n = refl
   noted_one (Serve user device) one other s t m n = refl
+  noted_one (Transfer user id to) one other s t m n =
+      ap (λ (x : Equipped). move_noted to (deck_queued x.devices id)) m
 
   step_one : (one other : SystemView) (step twin : Step) → IsSameEvent step.event twin.event → LookAlike one other
       → IsStep one step → IsStep other twin → HadFrames step.reply.ended → HadFrames twin.reply.ended

@@ -166,7 +166,7 @@ module _ (q : QueuesValue) (s : SystemView)
     (are : (from : ℕ) → from < length s.users
     → (user_at s from).devices.punched ≡ (files_of q.users from).punched) where
   pub contents_same : (parcel : Parcel) → IsThere s parcel → contents_in q parcel ≡ contents s parcel
-  contents_same (parcels.Deck number cards) h = refl
+  contents_same (parcels.Deck number sender cards) h = refl
   contents_same (parcels.Message line) h = refl
   contents_same (parcels.File from index number) h =
       ap (λ (files : List FileValue).
@@ -174,7 +174,7 @@ module _ (q : QueuesValue) (s : SystemView)
       (sym (are from h.0))
 
   pub there_same : (parcel : Parcel) → IsThere s parcel → IsThereIn q parcel
-  there_same (parcels.Deck number cards) h = tt
+  there_same (parcels.Deck number sender cards) h = tt
   there_same (parcels.Message line) h = tt
   there_same (parcels.File from index number) h =
       subst (λ (files : List FileValue). index < length files) (are from h.0) h.1

@@ -30,15 +30,19 @@ use Rattle.machine_devices.specs.declared.line.LineOutcome.{LineOutcome}
 use Rattle.machine_devices.specs.declared.reply.UserResponse.{UserResponse}
 use Rattle.machine_devices.specs.declared.reply.UserResponse.TheVariants.{Nothing}
 use Rattle.machine_devices.specs.declared.files.FileKind.TheVariants as kinds
+use Rattle.machine_devices.specs.Devices.{DevicesValue}
 use Rattle.machine_devices.specs.Equipped.{Equipped, nobody}
 use Rattle.machine_devices.specs.UserDirectory.{UserDirectory}
 use Rattle.machine_devices.specs.Life.{Event as Local, Units, Serve as Serves, Line as Types, Tick as Ticks}
-use Rattle.machine_devices.specs.Life.{Deck as Gets, Leaves, Lives}
+use Rattle.machine_devices.specs.Life.{Deck as Gets, Purge as Purges, Leaves, Lives}
 use Rattle.machine_devices.specs.Lines.{files_closed, requested}
 use Rattle.cp_spool.specs.Queues.{cards_of}
 use Rattle.machine_devices.specs.Comes.{NeedsMemory, closes, is_cut, is_ipl}
 use Rattle.cp_core.specs.Come.{HasReceived}
 use Rattle.machine_devices.specs.Coming.{comes_by_line, comes_from_operator}
+use Rattle.machine_devices.specs.Spooling.{deck_queued, renumbered, with_deck_purged, with_deck_queued}
+use Rattle.machine_devices.proofs.Moved.{none_purged, purged_first, queued_index}
+use Rattle.unit_record.specs.Reader.{DeckValue, queued_at}
 use Rattle.machine_devices.specs.Notes.{closed_by, next_file, note_where, noted, stands_in}
 use Rattle.cp_core.specs.Histories.{IsReplied}
 use Rattle.cp_core.specs.Local.{Step, coming, run_of, units_of}
@@ -48,14 +52,15 @@ use Rattle.machine_devices.specs.declared.request.Request.{Request}
 use Rattle.machine_devices.specs.Replies.{silent}
 use Rattle.cp_core.specs.Supply.{IsGivenBack}
 use Rattle.cp_core.specs.System.{SystemView, kept_at, logged_on_of, machine_at, user_at, world_among, world_of}
-use Rattle.machine_devices.specs.Notes.{deck_noted}
-use Rattle.machine_devices.specs.Replies.{delivered_by, given, said_to_line, saying}
-use Rattle.cp_core.specs.UserOp.{HasRun, HasServed, HasTicked, HasTyped}
+use Rattle.machine_devices.specs.Notes.{deck_noted, move_noted}
+use Rattle.machine_devices.specs.Replies.{delivered_by, given, moved, said_to_line, saying}
+use Rattle.cp_core.specs.UserOp.{HasRun, HasServed, HasTicked, HasTyped, HasWithdrawn}
 use Rattle.machine_devices.specs.declared.reply.Delivered.{Delivered}
 use Rattle.machine_devices.specs.declared.reply.Delivery.{Delivery}
 use Rattle.machine_devices.specs.declared.reply.Delivery.TheVariants as deliveries
 use Rattle.machine_devices.specs.declared.reply.Ended.TheVariants.{Ran, Served, Done, FramesOut}
 use Rattle.machine_devices.specs.declared.event.Event.TheVariants.{Run, Line, Tick, Deck, Serve}
+use Rattle.machine_devices.specs.declared.event.Event.TheVariants.{Transfer}
 use Rattle.machine_devices.specs.declared.reply.Reply.{Reply}
 use Rattle.machine_devices.specs.declared.files.FileNote.{FileNote}
 use Rattle.machine_devices.proofs.Answered.{follow_may, follow_same, line_stands, load_needs_none}
@@ -606,6 +611,136 @@ deck_cut old new user cards rest some left =
         brought = λ off. ([], quiet user old.supply new.supply supply, refl);
       };
       others = λ u not. ap (λ (x : SystemView). get_or x.users u nobody) left;
+    }
+
+-- ---- a deck that is moved
+
+-- Where no deck of this number is queued, nothing happens.
+pub none_moved : (old : SystemView) (user id to : ℕ) → IsBetweenUnits old.supply
+    → deck_queued (user_at old user).devices id ≡ None
+    → IsReplied old (record { event = Transfer user id to; reply = silent Done; seen = old })
+none_moved old user id to rest none = record {
+  applied = λ u. (alone old old user (Purges id ∷ [])
+      (ap (λ (us : List Equipped). record old { users = us }) (set_own old.users user nobody))
+      (user_at old user, none_purged id (user_at old user) none, refl) u);
+  reported = record {
+    tells = (refl, rw none refl);
+    lines = same_lines (user_at old user) (user_at old user) refl;
+    files = rw none (sym (append-nil old.files));
+  };
+  supplied = record {
+    between_before = rest;
+    between = rest;
+    given_back = λ on. absurd (false≢true on);
+    brought = λ off. ([], quiet user old.supply old.supply refl, refl);
+  };
+}
+
+-- the machine of a user, from whose reader a deck was withdrawn
+abbrev withdrawn : ℕ → Equipped → Equipped
+withdrawn id e = record e { devices = with_deck_purged e.devices id }
+
+-- the machine of a user, to whose reader a deck has come
+abbrev having_deck : DeckValue → Equipped → Equipped
+having_deck deck e = record e { devices = with_deck_queued e.devices deck }
+
+-- it may be withdrawn before it comes to the same reader
+withdrawn_first : (id : ℕ) (deck : DeckValue) (e : Equipped) (found : DeckValue)
+    → deck_queued e.devices id ≡ Some found
+    → withdrawn id (having_deck deck e) ≡ having_deck deck (withdrawn id e)
+withdrawn_first id deck e found is =
+    let at = queued_index e.devices id found (queued_at e.devices.reader id) refl is in
+    ap (λ (d : DevicesValue). record e { devices = d }) (purged_first e.devices deck id at.0 at.1)
+
+module _ (old middle new : SystemView) (user id to : ℕ) (deck found : DeckValue)
+    (is : deck_queued (user_at old user).devices id ≡ Some found)
+    (come : user_at middle to ≡ having_deck deck (user_at old to))
+    (others_came : middle.users ≡ set old.users to (user_at middle to))
+    (left : user_at new user ≡ withdrawn id (user_at middle user))
+    (others_left : new.users ≡ set middle.users user (user_at new user)) where
+  moved_at : (u : ℕ) (b c : Bool) → (user == u) ≡ b → (to == u) ≡ c
+      → Lives as_reached ((if b then Purges id ∷ [] else []) ++ (if c then Gets deck ∷ [] else []))
+      (user_at old u) (user_at new u)
+  moved_at u true true own comes =
+      let here : user ≡ u = grind (arith, nat_tests) in
+      let there : to ≡ u = grind (arith, nat_tests) in
+      let mid : user_at middle u ≡ having_deck deck (user_at old u) =
+      subst (λ (v : ℕ). user_at middle v ≡ having_deck deck (user_at old v)) there come in
+      let last : user_at new u ≡ withdrawn id (user_at middle u) =
+      subst (λ (v : ℕ). user_at new v ≡ withdrawn id (user_at middle v)) here left in
+      let queued : deck_queued (user_at old u).devices id ≡ Some found =
+      subst (λ (v : ℕ). deck_queued (user_at old v).devices id ≡ Some found) here is in (
+        withdrawn id (user_at old u),
+        refl,
+        (user_at new u, last ∙ ap (withdrawn id) mid ∙ withdrawn_first id deck (user_at old u) found queued, refl),
+      )
+  moved_at u true false own comes =
+      let here : user ≡ u = grind (arith, nat_tests) in
+      let mid : user_at middle u ≡ user_at old u = others_stay to old.users middle.users others_came u comes in
+      let last : user_at new u ≡ withdrawn id (user_at middle u) =
+      subst (λ (v : ℕ). user_at new v ≡ withdrawn id (user_at middle v)) here left in
+      (user_at new u, last ∙ ap (withdrawn id) mid, refl)
+  moved_at u false true own comes =
+      let there : to ≡ u = grind (arith, nat_tests) in
+      let mid : user_at middle u ≡ having_deck deck (user_at old u) =
+      subst (λ (v : ℕ). user_at middle v ≡ having_deck deck (user_at old v)) there come in
+      (user_at new u, others_stay user middle.users new.users others_left u own ∙ mid, refl)
+  moved_at u false false own comes =
+      others_stay user middle.users new.users others_left u own
+      ∙ others_stay to old.users middle.users others_came u comes
+
+  -- no line joins a console
+  same_output : (user_at new user).machine.output ≡ (user_at old user).machine.output
+  same_output =
+      ap (λ (e : Equipped). e.machine.output) left
+      ∙ stays_each (λ (e : Equipped). e.machine.output) to old.users middle.users others_came
+      (ap (λ (e : Equipped). e.machine.output) come) user
+
+-- A deck that is moved is a step of the system.
+pub deck_transferred : (old middle new : SystemView) (user id to : ℕ) (found : DeckValue) (done : Unit {0})
+    → IsBetweenUnits old.supply → deck_queued (user_at old user).devices id ≡ Some found
+    → Leaves as_reached (Gets (record found { label = next_file old.files })) (user_at old to) (user_at middle to)
+    → middle ≡ record old {
+      users = set old.users to (user_at middle to);
+      files = old.files ++ record { user = to; kind = kinds.Deck } ∷ [];
+    }
+    → HasWithdrawn id user (user_at middle user) middle.supply done (user_at new user) new.supply
+    → IsLent middle user new
+    → IsReplied old (record {
+      event = Transfer user id to;
+      reply = record {
+        ended = Done;
+        said = Nothing;
+        lines = 0;
+        delivered = Some (record { to = to; what = deliveries.Deck (next_file old.files) });
+      };
+      seen = new;
+    })
+deck_transferred old middle new user id to found done rest is come got gone lent =
+    let number = next_file old.files in
+    let deck : DeckValue = record found { label = number } in
+    let others_came = ap (λ (s : SystemView). s.users) got in
+    let others_left = ap (λ (s : SystemView). s.users) lent in
+    let supply : new.supply ≡ old.supply = gone.supply ∙ ap (λ (s : SystemView). s.supply) got in
+    let each = moved_at old middle new user id to deck found is come others_came gone.leaves others_left in
+    record {
+      applied = λ u. subst (λ (d : DeckValue). Lives as_reached
+          ((if user == u then Purges id ∷ [] else []) ++ (if to == u then Gets d ∷ [] else []))
+          (user_at old u) (user_at new u)) (ap (renumbered number) (sym is))
+          (each u (user == u) (to == u) refl refl);
+      reported = record {
+        tells = (refl, ap (moved to number) (sym is));
+        lines = same_lines (user_at new user) (user_at old user)
+            (same_output old middle new user id to deck found is come others_came gone.leaves others_left);
+        files = ap (λ (s : SystemView). s.files) lent ∙ ap (λ (s : SystemView). s.files) got
+            ∙ ap (λ (o : Option DeckValue). old.files ++ move_noted to o) (sym is);
+      };
+      supplied = record {
+        between_before = rest;
+        between = subst IsBetweenUnits (sym supply) rest;
+        given_back = λ on. absurd (false≢true on);
+        brought = λ off. ([], quiet user old.supply new.supply supply, refl);
+      };
     }
 
 -- A list that is counted as empty is empty.

@@ -23,6 +23,7 @@ use Rattle.cp_resident.specs.Reuse.{HasReused, HasReusedDisk, KnowsAgain, ReuseV
 use Rattle.cp_core.specs.System.{SystemView, kept_at, user_at}
 use Rattle.machine_devices.specs.declared.event.Event.{Event}
 use Rattle.machine_devices.specs.declared.event.Event.TheVariants.{Run, Line, Tick, Deck, Serve}
+use Rattle.machine_devices.specs.declared.event.Event.TheVariants.{Transfer}
 
 -- none is kept any longer
 abbrev pub IsForgotten : ReuseValue → ReuseValue → Type 0
@@ -124,6 +125,7 @@ EventKeeps old (Line user typed) ended new = LineKept user typed.now old ended n
 EventKeeps old (Tick user) ended new = new.kept ≡ old.kept
 EventKeeps old (Deck user cards) ended new = new.kept ≡ old.kept
 EventKeeps old (Serve user device) ended new = ServeKept user device old ended new
+EventKeeps old (Transfer user id to) ended new = new.kept ≡ old.kept
 
 -- and so does an event that is refused memory
 abbrev pub KeepsCutShort : SystemView → Event → SystemView → Type 0
@@ -131,5 +133,6 @@ KeepsCutShort old (Run user units) new = new.kept ≡ old.kept
 KeepsCutShort old (Line user typed) new = LineKeptShort user typed.now old new
 KeepsCutShort old (Tick user) new = new.kept ≡ old.kept
 KeepsCutShort old (Deck user cards) new = new.kept ≡ old.kept
+KeepsCutShort old (Transfer user id to) new = new.kept ≡ old.kept
 KeepsCutShort old (Serve user device) new =
     HasKept user old new (ServeKeeps device user (user_at old user) old.supply (Err errors.Memory))

@@ -8,8 +8,9 @@ use Rattle.machine_panel.specs.Tick.{TickNeeds}
 use Rattle.machine_devices.specs.declared.reply.UserResponse.TheVariants.{Nothing}
 use Rattle.machine_devices.specs.Serve.{IsServedAt}
 use Rattle.machine_devices.specs.Events.{user_of}
-use Rattle.machine_devices.specs.Notes.{closed_by, deck_noted, next_file}
-use Rattle.machine_devices.specs.Replies.{IsLineTold, given, saying}
+use Rattle.machine_devices.specs.Notes.{closed_by, deck_noted, move_noted, next_file}
+use Rattle.machine_devices.specs.Replies.{IsLineTold, given, moved, saying}
+use Rattle.machine_devices.specs.Spooling.{deck_queued}
 use Rattle.cp_core.specs.Local.{Step}
 use Rattle.cp_core.specs.Supply.{IsShort}
 use Rattle.cp_core.specs.Wants.{DeviceNeeds, LineWants}
@@ -18,6 +19,7 @@ use Rattle.machine_devices.specs.declared.reply.Ended.{Ended}
 use Rattle.machine_devices.specs.declared.reply.Ended.TheVariants.{Ran, Served, Done, FramesOut}
 use Rattle.machine_devices.specs.declared.event.Event.{Event}
 use Rattle.machine_devices.specs.declared.event.Event.TheVariants.{Run, Line, Tick, Deck, Serve}
+use Rattle.machine_devices.specs.declared.event.Event.TheVariants.{Transfer}
 use Rattle.machine_devices.specs.declared.reply.Reply.{Reply}
 use Rattle.machine_devices.specs.declared.files.FileNote.{FileNote}
 
@@ -84,6 +86,15 @@ TellsOfDeck user cards old reply FramesOut = ⊥
 TellsOfDeck user cards old reply (Ran ran) = ⊥
 TellsOfDeck user cards old reply (Served done) = ⊥
 
+-- what the reply to a deck that is moved reports
+abbrev pub TellsOfTransfer : ℕ → ℕ → ℕ → SystemView → Reply → Ended → Type 0
+TellsOfTransfer user id to old reply Done = (reply.said ≡ Nothing)
+    × (reply.delivered
+    ≡ moved to (next_file old.files) (deck_queued (user_at old user).devices id))
+TellsOfTransfer user id to old reply FramesOut = ⊥
+TellsOfTransfer user id to old reply (Ran ran) = ⊥
+TellsOfTransfer user id to old reply (Served done) = ⊥
+
 -- ---- a serve
 
 -- the device is served as that of a machine of its own whose program is read when it is reached,
@@ -108,6 +119,7 @@ noted_by (Line user typed) old new = closed_by user (user_at old user) (user_at 
 noted_by (Tick user) old new = []
 noted_by (Deck user cards) old new = deck_noted user cards.now
 noted_by (Serve user device) old new = []
+noted_by (Transfer user id to) old new = move_noted to (deck_queued (user_at old user).devices id)
 
 -- ---- an event
 
@@ -118,6 +130,7 @@ TellsOf old (Line user typed) reply new = TellsOfLine user typed.now old reply r
 TellsOf old (Tick user) reply new = TellsOfTick user old reply reply.ended new
 TellsOf old (Deck user cards) reply new = TellsOfDeck user cards.now old reply reply.ended
 TellsOf old (Serve user device) reply new = TellsOfServe user device old reply reply.ended new
+TellsOf old (Transfer user id to) reply new = TellsOfTransfer user id to old reply reply.ended
 
 -- the reply says what a machine of its own says, or that it is out of frames; how many lines joined
 -- the console of the user whom the event names; and which files have got numbers

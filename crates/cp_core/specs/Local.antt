@@ -8,8 +8,9 @@ use Rattle.unit_record.specs.declared.reader.Sender.TheVariants as senders
 use Rattle.unit_record.specs.Reader.{DeckValue}
 use Rattle.cp_console.specs.ConsoleLine.{characters_of}
 use Rattle.machine_devices.specs.Life.{Event as Local, Units, Serve as Serves, Line as Types}
-use Rattle.machine_devices.specs.Life.{Tick as Ticks, Deck as Gets, Message as Hears, Lives}
-use Rattle.machine_devices.specs.Spooling.{deck_punched}
+use Rattle.machine_devices.specs.Life.{Tick as Ticks, Deck as Gets, Message as Hears}
+use Rattle.machine_devices.specs.Life.{Purge as Purges, Lives}
+use Rattle.machine_devices.specs.Spooling.{deck_moved, deck_punched}
 use Rattle.machine_devices.specs.Events.{user_of}
 use Rattle.cp_core.specs.System.{SystemView, user_at, world_of}
 use Rattle.machine_devices.specs.declared.reply.Delivered.{Delivered}
@@ -19,6 +20,7 @@ use Rattle.machine_devices.specs.declared.reply.Ended.{Ended}
 use Rattle.machine_devices.specs.declared.reply.Ended.TheVariants.{Ran, Done, Served, FramesOut}
 use Rattle.machine_devices.specs.declared.event.Event.{Event}
 use Rattle.machine_devices.specs.declared.event.Event.TheVariants.{Run, Line, Tick, Deck, Serve}
+use Rattle.machine_devices.specs.declared.event.Event.TheVariants.{Transfer}
 use Rattle.machine_devices.specs.declared.reply.Reply.{Reply}
 
 -- an event that was applied, its reply, and what was seen after it
@@ -61,18 +63,19 @@ serve_of device (Ran ran) = []
 serve_of device Done = []
 serve_of device FramesOut = []
 
--- of a deck only that it comes
+-- of a deck only that it comes, and of one that is moved only that it is withdrawn
 abbrev pub local_event : SystemView → Event → Ended → List Local
 local_event old (Run user asked) ended = run_of asked ended
 local_event old (Line user typed) ended = line_of old user typed.now ended
 local_event old (Tick user) ended = tick_of ended
 local_event old (Deck user cards) ended = []
 local_event old (Serve user device) ended = serve_of device ended
+local_event old (Transfer user id to) ended = Purges id ∷ []
 
 -- ---- what comes to a user
 
--- the deck with this number that came by an event: the operator's cards, or those of the file that
--- the user's punch closed, which is the first after those of before
+-- the deck with this number that came by an event: the operator's cards, those of the file that the
+-- user's punch closed, which is the first after those of before, or the deck that was moved
 abbrev pub deck_by : Event → SystemView → SystemView → ℕ → DeckValue
 deck_by (Deck user cards) old seen number =
     record { label = number; sender = senders.System; cards = cards.now }
@@ -84,6 +87,7 @@ deck_by (Run user asked) old seen number =
 deck_by (Tick user) old seen number = record { label = number; sender = senders.System; cards = [] }
 deck_by (Serve user device) old seen number =
     record { label = number; sender = senders.System; cards = [] }
+deck_by (Transfer user id to) old seen number = deck_moved (user_at old user).devices id number
 
 -- a deck comes to the reader, and a message to the console
 abbrev pub coming : SystemView → Step → Delivery → Local

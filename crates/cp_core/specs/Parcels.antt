@@ -13,35 +13,35 @@ use Rattle.cp_core.specs.declared.delivery.Parcel.TheVariants as parcels
 
 -- a deck or a closed file comes to the reader, and a message to the console
 abbrev pub contents : SystemView → Parcel → Local
-contents s (parcels.Deck number cards) =
-    Gets (record { label = number; sender = senders.System; cards = cards.items })
+contents s (parcels.Deck number sender cards) =
+    Gets (record { label = number; sender = sender; cards = cards.items })
 contents s (parcels.File from index number) =
     Gets (deck_punched (user_at s from).devices index number (senders.User from))
 contents s (parcels.Message line) = Hears (characters_of line)
 
 -- the same, by the files of all
 abbrev pub contents_in : QueuesValue → Parcel → Local
-contents_in q (parcels.Deck number cards) =
-    Gets (record { label = number; sender = senders.System; cards = cards.items })
+contents_in q (parcels.Deck number sender cards) =
+    Gets (record { label = number; sender = sender; cards = cards.items })
 contents_in q (parcels.File from index number) =
     Gets (deck_of (files_of q.users from).punched index number (senders.User from))
 contents_in q (parcels.Message line) = Hears (characters_of line)
 
 -- a file that is to be delivered is there
 abbrev pub IsThere : SystemView → Parcel → Type 0
-IsThere s (parcels.Deck number cards) = Unit {0}
+IsThere s (parcels.Deck number sender cards) = Unit {0}
 IsThere s (parcels.File from index number) = (from < length s.users)
     × (index < length (user_at s from).devices.punched)
 IsThere s (parcels.Message line) = Unit {0}
 
 -- what is to be delivered is there: a closed file has its place
 abbrev pub IsThereIn : QueuesValue → Parcel → Type 0
-IsThereIn q (parcels.Deck number cards) = Unit {0}
+IsThereIn q (parcels.Deck number sender cards) = Unit {0}
 IsThereIn q (parcels.File from index number) = index < length (files_of q.users from).punched
 IsThereIn q (parcels.Message line) = Unit {0}
 
 -- what the receiver is given
 abbrev pub note_of : Parcel → Delivery
-note_of (parcels.Deck number cards) = deliveries.Deck number
+note_of (parcels.Deck number sender cards) = deliveries.Deck number
 note_of (parcels.File from index number) = deliveries.Deck number
 note_of (parcels.Message line) = deliveries.Message line

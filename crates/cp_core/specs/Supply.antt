@@ -22,6 +22,7 @@ use Rattle.machine_devices.specs.declared.reply.Ended.{Ended}
 use Rattle.machine_devices.specs.declared.reply.Ended.TheVariants.{Ran, Served, Done, FramesOut}
 use Rattle.machine_devices.specs.declared.event.Event.{Event}
 use Rattle.machine_devices.specs.declared.event.Event.TheVariants.{Run, Line, Tick, Deck, Serve}
+use Rattle.machine_devices.specs.declared.event.Event.TheVariants.{Transfer}
 
 -- ---- no room
 
@@ -61,6 +62,7 @@ gives_back old (Line user typed) = switches (requested typed.now (user_at old us
 gives_back old (Tick user) = false
 gives_back old (Deck user cards) = false
 gives_back old (Serve user device) = false
+gives_back old (Transfer user id to) = false
 
 -- ---- pages that come
 
@@ -91,8 +93,8 @@ LineBrings false needs units = OneBrings needs units
 -- what the units of an event may bring: each unit of a run, and the one that lacked a page, nine
 -- pages that it needs; a line those of the bytes that it shows or changes, and of a loading page 0
 -- and those that its program touches, each at most four times; a tick the page of the timer, of a
--- machine that runs; a deck none; a serve those that the program of the device needs, each at most
--- twice
+-- machine that runs; a deck that comes or is moved none; a serve those that the program of the
+-- device needs, each at most twice
 abbrev pub MayBring : SystemView → Event → Ended → List (List ℕ) → Type 0
 MayBring old (Run user asked) ended units = RunBrings (machine_at old user) ended units
 MayBring old (Line user typed) ended units =
@@ -101,6 +103,7 @@ MayBring old (Line user typed) ended units =
 MayBring old (Tick user) ended units = OneBrings (TickNeeds (machine_at old user)) units
     × (length (concat units) ≤ 1)
 MayBring old (Deck user cards) ended units = units ≡ []
+MayBring old (Transfer user id to) ended units = units ≡ []
 MayBring old (Serve user device) ended units =
     AreNeeded (DeviceNeeds device (user_at old user)) serve_times units
 

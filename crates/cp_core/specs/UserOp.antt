@@ -21,6 +21,7 @@ use Rattle.machine_devices.specs.Equipped.{Equipped}
 use Rattle.machine_devices.specs.Lines.{IsLine, requested}
 use Rattle.machine_devices.specs.Requests.{switches}
 use Rattle.machine_devices.specs.Serve.{IsServedAt}
+use Rattle.machine_devices.specs.Spooling.{with_deck_purged}
 use Rattle.machine_devices.specs.UserDirectory.{UserDirectory}
 use Rattle.cp_core.specs.Supply.{AreNeeded, IsGivenBack, IsShort, LineBrings}
 use Rattle.machine_devices.specs.Comes.{LineMay, is_ipl}
@@ -60,6 +61,14 @@ pub record HasTicked (user : ℕ) (old : Equipped) (before : FrameSupply)
   pub leaves : TickLeaves user old result new after
   pub brought : (pages : List ℕ) × IsBroughtInUnits user (pages ∷ []) before after
       × AllNeeded (TickNeeds old.machine) pages × (length pages ≤ 1)
+
+-- ---- a deck that is withdrawn
+
+-- the deck of this number has left the reader, unless it is current, and all else stays
+pub record HasWithdrawn (id user : ℕ) (old : Equipped) (before : FrameSupply) (done : Unit {0})
+    (new : Equipped) (after : FrameSupply) : Type 0 where
+  pub leaves : new ≡ record old { devices = with_deck_purged old.devices id }
+  pub supply : after ≡ before
 
 -- ---- a line
 

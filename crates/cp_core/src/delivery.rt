@@ -3,14 +3,14 @@ ghost use Rattle.std.specs.Prelude.{◌≡◌};
 
 use cp_console::console_line::ConsoleLine;
 use machine_devices::Delivery;
-use unit_record::Card;
+use unit_record::{Card, Sender};
 use user_names::UserNo;
 
 /// What is to be delivered to a user.
 #[derive(Drop)]
 pub(crate) enum Parcel {
-    /// A deck of the operator, with this number.
-    Deck(u64, Vec<Card>),
+    /// A deck of these cards, with this number and this sender.
+    Deck(u64, Sender, Vec<Card>),
     /// The file of this index that the punch of a user closed, which has this number.
     File(UserNo, usize, u64),
     /// A line for the console.
@@ -25,7 +25,7 @@ impl Parcel {
         ensures { result ≡ note_of self.now }
     {
         match self {
-            Parcel::Deck(number, _) => Delivery::Deck(*number),
+            Parcel::Deck(number, _, _) => Delivery::Deck(*number),
             Parcel::File(_, _, number) => Delivery::Deck(*number),
             Parcel::Message(line) => Delivery::Message(*line),
         }

@@ -17,8 +17,9 @@ pub enum CpError {
     /// The directory has no such user. Nothing has happened.
     #[error("the directory has no such user")]
     NoSuchUser,
-    /// The directory gives the user no device of this address. Nothing has happened.
-    #[error("the user has no such device")]
+    /// The directory gives the user no device of this address, or has no user whose reader could
+    /// get the deck that is to be moved. Nothing has happened.
+    #[error("the user has no such device, or the deck no such receiver")]
     NoSuchDevice,
 }
 

@@ -21,7 +21,7 @@ ghost use Rattle.machine_devices.specs.Replies.{said_to_line};
 use crate::delivery::Parcel;
 use crate::system::System;
 use crate::user_machine::UserMachine;
-use crate::work::Line;
+use crate::work::{Line, Withdrawal};
 use arrayvec::ArrayVec;
 use machine_devices::{
     ClosedFiles, Delivered, Delivery, Ended, FileKind, LineOutcome, Reply, UserResponse, copy_of,
@@ -29,7 +29,7 @@ use machine_devices::{
 };
 use machine_panel::LineError;
 use std::alloc::AllocError;
-use unit_record::{Card, Target};
+use unit_record::{Card, Sender, Target};
 use user_names::UserNo;
 
 /// Returns a list of flags, one for each of these users: whether he is logged on.
@@ -271,10 +271,50 @@ impl System {
         let to = self.number_of(user);
         let copy = copy_of(self.alloc, cards)?;
         self.number_file(to, FileKind::Deck)?;
-        self.deliver(user, Parcel::Deck(number, copy))?;
+        self.deliver(user, Parcel::Deck(number, Sender::System, copy))?;
         Ok(Delivered {
             to,
             what: Delivery::Deck(number),
+        })
+    }
+
+    /// Moves the deck of this number, unless it is current, from a user's reader to the end of
+    /// another's, as a deck with the next number, and returns the reply; without such a deck it
+    /// does nothing.
+    #[inline(never)]
+    pub(crate) fn transfer(&mut self, user: usize, id: u64, to: usize) -> Result<Reply, AllocError>
+        requires user { user < length self.old.users }
+        requires to { to < length self.old.users }
+        ensures step { IfOk result
+            (λ reply. IsReplied self.old
+            (record { event = happening.Transfer user id to; reply = reply; seen = self.new })) }
+        ensures cut { OnErr result
+            (IsCutShort self.old (happening.Transfer user id to) self.new) }
+        ensures confined { IsConfined (placements_at self.old user) self.old.volumes
+            self.new.volumes }
+        ensures kept { self.new.kept ≡ self.old.kept }
+        ensures placements { self.new.placements ≡ self.old.placements }
+        ensures directory { self.new.directory ≡ self.old.directory }
+        ensures spent { self.new.is_spent ≡ self.old.is_spent }
+    {
+        let number = self.next_file();
+        let Some(deck) = self.devices_of(user).queued(id) else {
+            return Ok(Reply::silent(Ended::Done));
+        };
+        let (sender, cards) = (deck.sender(), deck.to_vec(self.alloc)?);
+        let receiver = self.number_of(to);
+        self.number_file(receiver, FileKind::Deck)?;
+        // What may be refused memory comes first: a deck is lost nowhere.
+        self.deliver(to, Parcel::Deck(number, sender, cards))?;
+        self.with_user(user, &Withdrawal(id));
+        Ok(Reply {
+            ended: Ended::Done,
+            said: UserResponse::Nothing,
+            lines: 0,
+            delivered: Some(Delivered {
+                to: receiver,
+                what: Delivery::Deck(number),
+            }),
         })
     }
 }

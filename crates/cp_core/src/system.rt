@@ -383,6 +383,17 @@ impl System {
                     Err(_) => Err(self.spend()),
                 }
             }
+            Event::Transfer(user, id, to) => {
+                let place = self.place_of(user)?;
+                let receiver = to.index();
+                if receiver >= self.users() {
+                    return Err(CpError::NoSuchDevice);
+                }
+                match self.transfer(place, id, receiver) {
+                    Ok(reply) => Ok(reply),
+                    Err(_) => Err(self.spend()),
+                }
+            }
         }
     }
 

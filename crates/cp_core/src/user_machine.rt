@@ -22,7 +22,6 @@ use machine_panel::Machine;
 use s370_num::{DevAddr, StorageKey};
 use std::alloc::{AllocError, Global};
 use std::marker::Model;
-use unit_record::Sender;
 use user_names::UserNo;
 
 /// A user's machine with its devices but for the bytes of its storage and the cylinders of its
@@ -113,8 +112,8 @@ impl UserMachine {
         ensures kept { self.new.reuse ≡ self.old.reuse }
     {
         match parcel {
-            Parcel::Deck(number, cards) => {
-                self.devices.deck(queues, number, Sender::System, cards)
+            Parcel::Deck(number, sender, cards) => {
+                self.devices.deck(queues, number, sender, cards)
             }
             Parcel::File(from, index, number) => self.devices.receive(queues, from, index, number),
             Parcel::Message(line) => {

@@ -179,6 +179,25 @@ impl UserOp for Tick {
     }
 }
 
+/// The deck of this number is withdrawn from the reader. This takes no memory.
+#[derive(Clone, Copy)]
+pub(crate) struct Withdrawal(pub(crate) u64);
+
+impl UserOp for Withdrawal {
+    type Answer = ();
+
+    ghost use Rattle.cp_core.specs.UserOp.{HasWithdrawn};
+
+    ghost Does = { λ withdrawal directory. HasWithdrawn withdrawal.0 };
+
+    ghost Keeps = { λ withdrawal user e supply done old new. new ≡ old };
+
+    /// Withdraws the deck of this number from the queue of the reader, unless it is current.
+    fn work(&self, _directory: &Directory, lent: &mut Lent<'_>, _storage: &mut Dat<'_>) {
+        lent.devices.purge(lent.queues, self.0);
+    }
+}
+
 /// A user types a line.
 #[derive(Drop)]
 pub(crate) struct Line<'a> {

@@ -1,9 +1,11 @@
--- A step of a search along a list.
+-- A step of a search along a list, and of a copy.
 use Rattle.std.proofs.Common.{◌≡◌, ◌≢◌, ℕ, zero, suc, ◌+◌, ◌==◌, Bool, true, false, List, [], ◌∷◌, drop, Some, ◌∙◌, ap}
-use Rattle.std.proofs.Common.{arith}
+use Rattle.std.proofs.Common.{◌++◌, arith, sym, take}
 use Rattle.std.specs.Prelude.{slice_get, if◌then◌else◌, ◌||◌}
 use Rattle.std.specs.List.{list_any, position_from}
+use Rattle.std.proofs.Math.Seq.{take-suc}
 use Rattle.std.proofs.lemmas.Bool.Decides.{nat_tests}
+use Rattle.std.proofs.lemmas.Option.{get_or_from_slice_get, slice_get_within}
 
 drop_at : {X : Type 0} (xs : List X) (i : ℕ) (x : X) → slice_get xs i ≡ Some x → drop i xs ≡ x ∷ drop (suc i) xs
 drop_at [] zero x e = absurd (cc)
@@ -30,6 +32,14 @@ module _ {X : Type 0} (p : X → Bool) (xs : List X) (i : ℕ) (x : X) (found : 
       ap (list_any p) (drop_at xs i x found)
       ∙ ap (λ (b : Bool). b || list_any p (drop (suc i) xs)) h
       ∙ ap (λ (n : ℕ). list_any p (drop n xs)) (let e : suc i ≡ i + 1 = omega arith in e)
+
+-- What is taken and the next one are one more.
+pub take_next : {X : Type 0} (xs : List X) (i : ℕ) (x : X) → slice_get xs i ≡ Some x
+    → take i xs ++ x ∷ [] ≡ take (i + 1) xs
+take_next xs i x found =
+    ap (λ y. take i xs ++ y ∷ []) (let is : x ≡ _ = sym (get_or_from_slice_get xs i x x found) in is)
+    ∙ sym (take-suc xs i x (slice_get_within xs i x found))
+    ∙ ap (λ (n : ℕ). take n xs) (let e : suc i ≡ i + 1 = omega arith in e)
 
 -- Equal numbers are compared as equal.
 pub equal : (a b : ℕ) → a ≡ b → (a == b) ≡ true

@@ -3,8 +3,10 @@
 use Rattle.std.specs.Prelude.{ℕ, ◌≡◌, ◌+◌, ◌≤◌, ◌==◌, List, [], ◌∷◌, ◌++◌, drop, map, remove}
 use Rattle.std.specs.Prelude.{slice_get, slice_index, slice_index_or, slice_set, Option, Some, None}
 use Rattle.std.specs.List.{position_from}
+use Rattle.std.specs.Option.{option_map}
 use Rattle.unit_record.specs.declared.output.Target.{Target}
 use Rattle.unit_record.specs.declared.reader.Sender.{Sender}
+use Rattle.unit_record.specs.declared.reader.Sender.TheVariants as senders
 use Rattle.unit_record.specs.Output.{EntryValue, FileValue}
 use Rattle.unit_record.specs.Reader.{DeckValue, currents}
 use Rattle.cp_spool.specs.File.{card_of_entry}
@@ -89,6 +91,18 @@ pub record HasRoom (user : ℕ) (room : Room) : Type 0 where
 abbrev pub waiting_at : UserFiles → ℕ → Option ℕ
 waiting_at f label = position_from (λ deck. deck.label == label) (currents f.place)
     (drop (currents f.place) f.decks)
+
+-- what stands in for a deck that is not there
+abbrev pub no_deck : DeckValue
+no_deck = record { label = 0; sender = senders.System; cards = [] }
+
+-- the deck at a place of a queue
+abbrev pub deck_in : List DeckValue → ℕ → DeckValue
+deck_in decks index = slice_index_or decks index no_deck
+
+-- the first waiting deck of this label, if there is one
+abbrev pub waiting : UserFiles → ℕ → Option DeckValue
+waiting f label = option_map (deck_in f.decks) (waiting_at f label)
 
 -- the files without one of the decks
 abbrev pub without_deck : ℕ → UserFiles → UserFiles

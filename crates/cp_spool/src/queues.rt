@@ -6,7 +6,8 @@ ghost use Rattle.std.specs.Option.{option_copied, option_map};
 ghost use Rattle.unit_record.specs.Reader.{currents};
 ghost use Rattle.cp_spool.specs.File.{closed_file};
 ghost use Rattle.cp_spool.specs.Queues.{HasRoom, deck_of, file_of, files_of, no_files, purged};
-ghost use Rattle.cp_spool.specs.Queues.{put_back, read_on, waiting_at, with_deck, with_files};
+ghost use Rattle.cp_spool.specs.Queues.{put_back, read_on, waiting, waiting_at, with_deck};
+ghost use Rattle.cp_spool.specs.Queues.{with_files};
 ghost use Rattle.cp_spool.specs.Queues.{with_place, with_printed, with_punched, without_deck};
 ghost use Rattle.cp_spool.specs.Queues.{without_first};
 
@@ -293,6 +294,18 @@ impl Queues {
                 Ok(())
             }
             None => Err(SpoolError::NoSuchFile),
+        }
+    }
+
+    /// Returns the first deck of this label that is not current in the queue of this user's reader,
+    /// if there is one.
+    pub fn waiting(&self, user: UserNo, label: u64) -> Option<SeenDeck<'_>>
+        ensures { result ≡ waiting (files_of self.now.users user) label }
+    {
+        let index = self.waiting_at(user, label)?;
+        match self.deck(user, index) {
+            Some(deck) => Some(deck),
+            None => unreachable!(),
         }
     }
 

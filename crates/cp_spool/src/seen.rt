@@ -1,8 +1,9 @@
 //! A deck as it is seen in its queue.
-ghost use Rattle.std.specs.Prelude.{◌≡◌, ◌<◌, length, slice_get, IfSome};
+ghost use Rattle.std.specs.Prelude.{◌≡◌, ◌<◌, length, slice_get, IfOk, IfSome};
 ghost use Rattle.cp_spool.specs.File.{cards_in};
 
 use crate::file::SpoolFile;
+use std::alloc::{AllocError, Global};
 use std::marker::Model;
 use unit_record::{Card, Sender};
 
@@ -68,5 +69,23 @@ impl<'a> SeenDeck<'a> {
         ensures fits { IfSome result (λ _. index < usize.MAX) }
     {
         self.file.card(index)
+    }
+
+    /// Returns a new copy of the cards of the deck.
+    ///
+    /// # Errors
+    ///
+    /// `AllocError` if memory is refused.
+    pub fn to_vec(&self, alloc: Global) -> Result<Vec<Card>, AllocError>
+        ensures { IfOk result (λ cards. cards.items ≡ self.now.cards) }
+    {
+        let mut cards = Vec::new(alloc);
+        for index in 0..self.count() {
+            match self.card(index) {
+                Some(card) => cards.push(card)?,
+                None => unreachable!(),
+            }
+        }
+        Ok(cards)
     }
 }

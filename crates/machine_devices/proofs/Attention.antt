@@ -42,7 +42,7 @@ use Rattle.machine_devices.specs.declared.request.Request.TheVariants.{Alone}
 use Rattle.machine_devices.specs.Attention.{AttentionAgrees, AttentionAgreesAtFirst, AttentionGoesOnAgreeing, waits_at}
 use Rattle.machine_devices.specs.Devices.{DevicesValue, is_there, kind_at, part_at, part_or_disk}
 use Rattle.machine_devices.specs.Equipped.{Equipped}
-use Rattle.machine_devices.specs.Life.{Event, Units, Serve, Line, Tick, Deck, Message, Leaves}
+use Rattle.machine_devices.specs.Life.{Event, Units, Serve, Line, Tick, Deck, Message, Purge, Leaves}
 use Rattle.machine_devices.specs.Lines.{IsAnswered, IsObeyed, LoadsDisk, LoadsKind, LoadsReader, LoadsUnit, Outcome}
 use Rattle.machine_devices.specs.Lines.{close_answered, closed_at, logged_off, logged_on, outcome, requested}
 use Rattle.machine_devices.specs.Lines.{printer_answered, punch_answered, spool_answered, spooled_to, target_of}
@@ -390,6 +390,7 @@ leaves reads Tick old new l h =
     (ap (λ (m : Machine). m.core.subchannels) l.0 ∙ ticked_same old.machine.mode old.machine) h
 leaves reads (Deck deck) old new l h = subst AttentionAgrees (sym l) h
 leaves reads (Message text) old new l h = subst AttentionAgrees (sym l) h
+leaves reads (Purge id) old new l h = subst AttentionAgrees (sym l) h
 
 -- Attentions agree with the console after each step.
 pub goes_on_agreeing : AttentionGoesOnAgreeing

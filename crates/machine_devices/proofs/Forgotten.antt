@@ -31,7 +31,7 @@ use Rattle.machine_devices.specs.declared.request.Request.TheVariants.{Alone}
 use Rattle.machine_devices.specs.Devices.{kind_at, part_at}
 use Rattle.machine_devices.specs.Equipped.{Equipped, with_bytes}
 use Rattle.machine_devices.specs.Forgotten.{PrintedLinesDoNotMatter, equipped_having_printed as having}
-use Rattle.machine_devices.specs.Life.{Event, Units, Serve, Line, Tick, Deck, Message, Leaves, Lives}
+use Rattle.machine_devices.specs.Life.{Event, Units, Serve, Line, Tick, Deck, Message, Purge, Leaves, Lives}
 use Rattle.machine_devices.specs.declared.line.LineOutcome.TheVariants as Lines
 use Rattle.machine_devices.specs.Lines.{Outcome, outcome, said, typed_where, typed_at, spooled_to, spool_answered}
 use Rattle.machine_devices.specs.Lines.{target_of, closed_at, punch_answered, printer_answered, close_answered}
@@ -290,6 +290,7 @@ module _ (gone : List (List ℕ)) where
   leaves reads (Message text) old new h =
       ap (having gone) h ∙ sym (ap (λ (m : Machine). record old { machine = m })
       ((do_not_matter gone old.machine).prints text))
+  leaves reads (Purge id) old new h = ap (having gone) h
 
   pub lives : (reads : Reading) (events : List Event) (old new : Equipped) → Lives reads events old new
       → Lives reads events (having gone old) (having gone new)

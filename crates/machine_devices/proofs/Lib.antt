@@ -20,4 +20,5 @@ pub mod Forgotten
 pub mod Written
 pub mod Lost
 pub mod Dropping
+pub mod Moved
 mod Served

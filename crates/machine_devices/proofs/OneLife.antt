@@ -36,7 +36,7 @@ use Rattle.machine_devices.specs.declared.request.Request.TheVariants.{LogsOn, L
 use Rattle.machine_devices.specs.declared.request.Request.TheVariants.{Alone}
 use Rattle.machine_devices.specs.Devices.{DevicesValue, kind_at, part_at}
 use Rattle.machine_devices.specs.Equipped.{Equipped, storage_in}
-use Rattle.machine_devices.specs.Life.{Event, Units, Serve, Line, Tick, Deck, Message, Leaves, Lives}
+use Rattle.machine_devices.specs.Life.{Event, Units, Serve, Line, Tick, Deck, Message, Purge, Leaves, Lives}
 use Rattle.machine_devices.specs.Lines.{IsAnswered, IsObeyed, LoadsDisk, LoadsKind, LoadsReader, LoadsUnit, Outcome}
 use Rattle.machine_devices.specs.Lines.{outcome, requested, spool_answered, spooled_to, target_in}
 use Rattle.machine_devices.specs.Loading.{is_good, left_by}
@@ -297,6 +297,7 @@ leaves_one reads Tick old a b l r =
     (both a.disks b.disks old.disks l.2 r.2)
 leaves_one reads (Deck deck) old a b l r = both a b _ l r
 leaves_one reads (Message text) old a b l r = both a b _ l r
+leaves_one reads (Purge id) old a b l r = both a b _ l r
 
 -- Two machines that live the same events are equal.
 pub lives_are_one : LivesAreOne
@@ -316,6 +317,7 @@ leaves_apart reads there (Line world typed) old a b keeps l r =
 leaves_apart reads there Tick old a b keeps l r = leaves_one reads Tick old a b l r
 leaves_apart reads there (Deck deck) old a b keeps l r = leaves_one reads (Deck deck) old a b l r
 leaves_apart reads there (Message text) old a b keeps l r = leaves_one reads (Message text) old a b l r
+leaves_apart reads there (Purge id) old a b keeps l r = leaves_one reads (Purge id) old a b l r
 
 -- What happens to one machine leaves the others as they are.
 pub lives_are_apart : LivesAreApart

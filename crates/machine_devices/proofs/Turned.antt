@@ -10,7 +10,7 @@ use Rattle.machine_panel.specs.declared.machine.Mode.{Mode}
 use Rattle.machine_panel.specs.declared.machine.Mode.TheVariants.{Off, Stopped, Running}
 use Rattle.machine_devices.specs.Devices.{kind_at}
 use Rattle.machine_devices.specs.Equipped.{Equipped}
-use Rattle.machine_devices.specs.Life.{Event, Units, Serve, Line, Tick, Deck, Message, Leaves, Lives}
+use Rattle.machine_devices.specs.Life.{Event, Units, Serve, Line, Tick, Deck, Message, Purge, Leaves, Lives}
 use Rattle.machine_devices.specs.Serve.{Serves}
 use Rattle.machine_devices.specs.Turned.{HasNoLine, OnlyLinesTurn}
 use Rattle.machine_devices.specs.UserDirectory.{UserDirectory, is_logged_on}
@@ -65,4 +65,6 @@ only_lines_turn reads (Tick ∷ events) first last none l =
 only_lines_turn reads (Deck deck ∷ events) first last none l =
     only_lines_turn reads events l.0 last none l.2 ∙ ap (λ (e : Equipped). on e.machine) l.1
 only_lines_turn reads (Message text ∷ events) first last none l =
+    only_lines_turn reads events l.0 last none l.2 ∙ ap (λ (e : Equipped). on e.machine) l.1
+only_lines_turn reads (Purge id ∷ events) first last none l =
     only_lines_turn reads events l.0 last none l.2 ∙ ap (λ (e : Equipped). on e.machine) l.1

@@ -59,7 +59,7 @@ use Rattle.machine_devices.specs.declared.request.Request.TheVariants.{LogsOn, L
 use Rattle.machine_devices.specs.declared.request.Request.TheVariants.{Alone}
 use Rattle.machine_devices.specs.Devices.{kind_at, part_at}
 use Rattle.machine_devices.specs.Equipped.{Equipped}
-use Rattle.machine_devices.specs.Life.{Event, Units, Serve, Line, Tick, Deck, Message, Leaves, Lives}
+use Rattle.machine_devices.specs.Life.{Event, Units, Serve, Line, Tick, Deck, Message, Purge, Leaves, Lives}
 use Rattle.machine_devices.specs.Lines.{IsAnswered, IsObeyed, LoadsDisk, LoadsKind, LoadsReader, LoadsUnit, Outcome}
 use Rattle.machine_devices.specs.Lines.{close_answered, closed_at, logged_off, logged_on, outcome, requested}
 use Rattle.machine_devices.specs.Lines.{printer_answered, punch_answered, spool_answered, spooled_to, target_of}
@@ -572,6 +572,9 @@ leaves reads (Deck deck) old new l =
     (stays_same old.machine.core.subchannels)
 leaves reads (Message text) old new l =
     same_list old.machine new.machine (ap (λ (e : Equipped). e.machine.core.subchannels) l)
+leaves reads (Purge id) old new l =
+    as_stays old.machine new.machine old.machine (ap (λ (e : Equipped). e.machine) l)
+    (stays_same old.machine.core.subchannels)
 
 lives : (reads : Reading) (events : List Event) (first last : Equipped) → Lives reads events first last
     → EquippedStays first last
@@ -610,6 +613,7 @@ deliveries_change_none reads (Deck deck ∷ events) first last d l =
     deliveries_change_none reads events l.0 last d l.2 ∙ ap (λ (e : Equipped). e.machine.core.subchannels) l.1
 deliveries_change_none reads (Message text ∷ events) first last d l =
     deliveries_change_none reads events l.0 last d l.2 ∙ ap (λ (e : Equipped). e.machine.core.subchannels) l.1
+deliveries_change_none reads (Purge id ∷ events) first last d l = absurd d
 
 -- ---- what is served
 

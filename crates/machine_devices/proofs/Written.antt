@@ -27,7 +27,7 @@ use Rattle.machine_devices.specs.declared.request.Request.TheVariants.{LogsOn, L
 use Rattle.machine_devices.specs.declared.request.Request.TheVariants.{Alone}
 use Rattle.machine_devices.specs.Devices.{DevicesValue, kind_at, part_at}
 use Rattle.machine_devices.specs.Equipped.{Equipped}
-use Rattle.machine_devices.specs.Life.{Event, Units, Serve, Line, Tick, Deck, Message, Leaves, Lives}
+use Rattle.machine_devices.specs.Life.{Event, Units, Serve, Line, Tick, Deck, Message, Purge, Leaves, Lives}
 use Rattle.machine_devices.specs.Lines.{Outcome, outcome, typed_where, typed_at, spooled_to}
 use Rattle.machine_devices.specs.Lines.{target_of, closed_at, punch_answered, printer_answered}
 use Rattle.machine_devices.specs.Lines.{answered_alone, close_answered, logged_on, purge_answered, spool_answered}
@@ -316,6 +316,7 @@ module _ (lost : Lost) where
   leaves reads Tick old new h = (h.0, ap (devices_having lost) h.1, h.2)
   leaves reads (Deck deck) old new h = ap having h
   leaves reads (Message text) old new h = ap having h
+  leaves reads (Purge id) old new h = ap having h
 
   -- and so does all that happens
   pub lives : (reads : Reading) (events : List Event) (old new : Equipped) → Lives reads events old new
@@ -508,6 +509,8 @@ module _ (reads : Reading) where
   leaves_stay (Deck deck) old new h = same_files old new
       (ap (λ (e : Equipped). e.devices.punched) h) (ap (λ (e : Equipped). e.devices.printed) h)
   leaves_stay (Message text) old new h = same_files old new
+      (ap (λ (e : Equipped). e.devices.punched) h) (ap (λ (e : Equipped). e.devices.printed) h)
+  leaves_stay (Purge id) old new h = same_files old new
       (ap (λ (e : Equipped). e.devices.punched) h) (ap (λ (e : Equipped). e.devices.printed) h)
 
   lives_stay : (events : List Event) (old new : Equipped) → Lives reads events old new → Stay old new

@@ -9,7 +9,7 @@ use Rattle.machine_devices.specs.declared.line.LineOutcome.{LineOutcome}
 use Rattle.machine_devices.specs.Equipped.{Equipped}
 use Rattle.machine_devices.specs.Lines.{IsLine}
 use Rattle.machine_devices.specs.Serve.{IsServedAt}
-use Rattle.machine_devices.specs.Spooling.{with_deck_queued}
+use Rattle.machine_devices.specs.Spooling.{with_deck_purged, with_deck_queued}
 use Rattle.machine_devices.specs.UserDirectory.{UserDirectory}
 
 -- what can happen to a machine with devices
@@ -26,6 +26,8 @@ pub data Event : Type 0 where
   Deck : DeckValue → Event
   -- a message comes to its console
   Message : List ℕ → Event
+  -- the deck of this number is withdrawn from its reader, unless it is current
+  Purge : ℕ → Event
 
 -- what an event leaves
 abbrev pub Leaves : Reading → Event → Equipped → Equipped → Type 0
@@ -38,6 +40,7 @@ Leaves reads Tick old new = (new.machine ≡ ticked old.machine) × (new.devices
     × (new.disks ≡ old.disks)
 Leaves reads (Deck deck) old new = new ≡ record old { devices = with_deck_queued old.devices deck }
 Leaves reads (Message text) old new = new ≡ record old { machine = printed old.machine text }
+Leaves reads (Purge id) old new = new ≡ record old { devices = with_deck_purged old.devices id }
 
 -- what events leave, in order
 abbrev pub Lives : Reading → List Event → Equipped → Equipped → Type 0

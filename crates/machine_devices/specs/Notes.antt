@@ -2,6 +2,7 @@
 use Rattle.std.specs.Prelude.{ℕ, ◌+◌, Bool, true, false, nat_lt, List, [], ◌∷◌, ◌++◌, length}
 use Rattle.std.specs.Prelude.{Option, Some, None}
 use Rattle.unit_record.specs.Output.{FileValue}
+use Rattle.unit_record.specs.Reader.{DeckValue}
 use Rattle.machine_devices.specs.declared.files.ClosedFiles.{ClosedFiles}
 use Rattle.machine_devices.specs.declared.files.FileKind.{FileKind}
 use Rattle.machine_devices.specs.declared.files.FileKind.TheVariants as kinds
@@ -33,6 +34,11 @@ closed_by user old new =
 abbrev pub deck_noted : ℕ → List (List ℕ) → List FileNote
 deck_noted user [] = []
 deck_noted user (card ∷ cards) = record { user = user; kind = kinds.Deck } ∷ []
+
+-- a deck that is moved to this user's reader, if it is there
+abbrev pub move_noted : ℕ → Option DeckValue → List FileNote
+move_noted user None = []
+move_noted user (Some deck) = record { user = user; kind = kinds.Deck } ∷ []
 
 -- ---- by what a line says
 

@@ -3,7 +3,7 @@ use Rattle.std.specs.Prelude.{ℕ, ◌≡◌, List, map}
 use Rattle.s370_channel.specs.Reading.{Reading}
 use Rattle.machine_devices.specs.declared.line.LineOutcome.{LineOutcome}
 use Rattle.machine_devices.specs.Equipped.{Equipped}
-use Rattle.machine_devices.specs.Life.{Event, Units, Serve, Line, Tick, Deck, Message, Lives}
+use Rattle.machine_devices.specs.Life.{Event, Units, Serve, Line, Tick, Deck, Message, Purge, Lives}
 use Rattle.machine_devices.specs.Lines.{IsLine}
 use Rattle.machine_devices.specs.UserDirectory.{UserDirectory}
 
@@ -27,6 +27,7 @@ elsewhere other (Line world typed) = Line (other world) typed
 elsewhere other Tick = Tick
 elsewhere other (Deck deck) = Deck deck
 elsewhere other (Message text) = Message text
+elsewhere other (Purge id) = Purge id
 
 -- in each other world users have the same names
 abbrev pub KeepsNames : (UserDirectory → UserDirectory) → Type 0

@@ -4,6 +4,7 @@ use Rattle.std.specs.Prelude.{Option, Some, None}
 use Rattle.unit_record.specs.declared.output.Target.{Target}
 use Rattle.unit_record.specs.declared.output.Target.TheVariants as targets
 use Rattle.unit_record.specs.Output.{FileValue}
+use Rattle.unit_record.specs.Reader.{DeckValue}
 use Rattle.cp_console.specs.declared.responses.Response.{Response}
 use Rattle.cp_console.specs.declared.responses.Response.TheVariants as responses
 use Rattle.machine_devices.specs.declared.line.LineOutcome.{LineOutcome}
@@ -98,3 +99,8 @@ pub record IsLineTold (world : UserDirectory) (users number : ℕ) (typed : List
 abbrev pub given : ℕ → ℕ → List (List ℕ) → Option Delivered
 given user number [] = None
 given user number (card ∷ cards) = Some (record { to = user; what = deliveries.Deck number })
+
+-- the deck that is moved to this user's reader, with this number, if it is there
+abbrev pub moved : ℕ → ℕ → Option DeckValue → Option Delivered
+moved user number None = None
+moved user number (Some deck) = Some (record { to = user; what = deliveries.Deck number })

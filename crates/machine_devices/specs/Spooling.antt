@@ -1,6 +1,7 @@
 -- What the control program does with the files and decks of a machine.
 use Rattle.std.specs.Prelude.{ℕ, Bool, true, false, if◌then◌else◌, List, [], ◌∷◌, length, slice_get}
 use Rattle.std.specs.Prelude.{Option, Some, None}
+use Rattle.std.specs.Option.{option_map}
 use Rattle.unit_record.specs.declared.output.Target.{Target}
 use Rattle.unit_record.specs.declared.output.Target.TheVariants.{System}
 use Rattle.unit_record.specs.declared.reader.Sender.{Sender}
@@ -8,7 +9,7 @@ use Rattle.unit_record.specs.Output.{EntryValue, closed_with}
 use Rattle.unit_record.specs.Reader.{DeckValue, with_deck, with_deck_back, queued_at, purged}
 use Rattle.unit_record.specs.Punch.{punch_emptied}
 use Rattle.unit_record.specs.Printer.{printer_emptied}
-use Rattle.cp_spool.specs.Queues.{cards_of}
+use Rattle.cp_spool.specs.Queues.{cards_of, deck_in, no_deck}
 use Rattle.machine_devices.specs.declared.files.ClosedFiles.{ClosedFiles}
 use Rattle.machine_devices.specs.declared.places.AttachedDevice.{AttachedDevice}
 use Rattle.machine_devices.specs.declared.places.AttachedDevice.TheVariants as kinds
@@ -75,6 +76,19 @@ with_deck_purged d id = record d { reader = purged d.reader (queued_at d.reader 
 -- the devices with the current deck back in the queue
 abbrev pub with_deck_put_back : DevicesValue → DevicesValue
 with_deck_put_back d = record d { reader = with_deck_back d.reader }
+
+-- the first deck of this number that is queued, if there is one: a current one is not
+abbrev pub deck_queued : DevicesValue → ℕ → Option DeckValue
+deck_queued d id = option_map (deck_in d.reader.decks) (queued_at d.reader id)
+
+-- a deck with another number; one that is not there has no cards
+abbrev pub renumbered : ℕ → Option DeckValue → DeckValue
+renumbered number None = record no_deck { label = number }
+renumbered number (Some deck) = record deck { label = number }
+
+-- the queued deck of this number, as it comes with another to the reader to which it is moved
+abbrev pub deck_moved : DevicesValue → ℕ → ℕ → DeckValue
+deck_moved d id number = renumbered number (deck_queued d id)
 
 -- The deck of a closed file has a card for each entry, in order. A file that is not there has no
 -- cards.

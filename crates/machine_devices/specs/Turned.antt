@@ -2,7 +2,7 @@
 use Rattle.std.specs.Prelude.{ℕ, ◌≡◌, List, [], ◌∷◌}
 use Rattle.s370_channel.specs.Reading.{Reading}
 use Rattle.machine_devices.specs.Equipped.{Equipped}
-use Rattle.machine_devices.specs.Life.{Event, Units, Serve, Line, Tick, Deck, Message, Lives}
+use Rattle.machine_devices.specs.Life.{Event, Units, Serve, Line, Tick, Deck, Message, Purge, Lives}
 use Rattle.machine_devices.specs.UserDirectory.{UserDirectory, is_logged_on}
 
 -- no event of these is a typed line
@@ -14,6 +14,7 @@ HasNoLine (Line world typed ∷ events) = ⊥
 HasNoLine (Tick ∷ events) = HasNoLine events
 HasNoLine (Deck deck ∷ events) = HasNoLine events
 HasNoLine (Message text ∷ events) = HasNoLine events
+HasNoLine (Purge id ∷ events) = HasNoLine events
 
 -- only a typed line turns a machine on or off
 abbrev pub OnlyLinesTurn : Type 0

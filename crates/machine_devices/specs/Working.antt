@@ -14,7 +14,7 @@ use Rattle.s370_subchannels.specs.Starts.{works}
 use Rattle.s370_subchannels.specs.Subchannels.{found, next_start}
 use Rattle.machine_panel.specs.Machine.{unused}
 use Rattle.machine_devices.specs.Equipped.{Equipped}
-use Rattle.machine_devices.specs.Life.{Event, Units, Serve, Line, Tick, Deck, Message, Lives}
+use Rattle.machine_devices.specs.Life.{Event, Units, Serve, Line, Tick, Deck, Message, Purge, Lives}
 use Rattle.machine_devices.specs.UserDirectory.{UserDirectory}
 
 -- where the device works, the channel address word of its program is good
@@ -82,6 +82,7 @@ AreDeliveries (Line world typed ∷ events) = ⊥
 AreDeliveries (Tick ∷ events) = ⊥
 AreDeliveries (Deck deck ∷ events) = AreDeliveries events
 AreDeliveries (Message text ∷ events) = AreDeliveries events
+AreDeliveries (Purge id ∷ events) = ⊥
 
 -- what is delivered to a machine changes no subchannel
 abbrev pub DeliveriesChangeNone : Type 0

@@ -19,6 +19,9 @@ pub enum Event<'a> {
     /// The device of this address of a user's machine is served: the channel program that was
     /// started on it runs as a whole.
     Serve(UserNo, DevAddr),
+    /// The operator moves the deck with this number, unless it is current, from a user's reader to
+    /// the end of another's.
+    Transfer(UserNo, u64, UserNo),
 }
 
 impl<'a> Event<'a> {
@@ -34,6 +37,7 @@ impl<'a> Event<'a> {
             Event::Tick(user) => *user,
             Event::Deck(user, _) => *user,
             Event::Serve(user, _) => *user,
+            Event::Transfer(user, _, _) => *user,
         }
     }
 }

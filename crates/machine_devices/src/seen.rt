@@ -3,6 +3,7 @@ ghost use Rattle.std.specs.Prelude.{◌≡◌, length, slice_get};
 ghost use Rattle.std.specs.Option.{option_copied, option_map};
 ghost use Rattle.cp_spool.specs.File.{closed_file};
 ghost use Rattle.machine_devices.specs.Lent.{devices_on};
+ghost use Rattle.machine_devices.specs.Spooling.{deck_queued};
 
 use crate::devices::Devices;
 use crate::places::Places;
@@ -62,6 +63,14 @@ impl<'a> SeenDevices<'a> {
         ensures { result ≡ slice_get self.now.reader.decks index }
     {
         self.queues.deck(self.devices.user(), index)
+    }
+
+    /// Returns the first deck of this number in the queue of the reader that is not current, if
+    /// there is one.
+    pub fn queued(&self, id: u64) -> Option<SeenDeck<'a>>
+        ensures { result ≡ deck_queued self.now id }
+    {
+        self.queues.waiting(self.devices.user(), id)
     }
 
     /// Returns how many cards of the current deck were read, or None if no deck is current.

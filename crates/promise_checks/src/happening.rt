@@ -23,6 +23,8 @@ pub enum CheckEvent {
     Tick,
     /// The operator gives him these cards.
     Deck(Vec<Card>),
+    /// The operator moves the deck of this number from his reader to that of another.
+    Transfer(u64, UserNo),
     /// He types this.
     Line(String),
 }
@@ -66,11 +68,22 @@ pub fn next_happening(
         0..=9 => CheckEvent::Run(sequence.next_number() % 24 + 1),
         10..=18 => CheckEvent::Serve(next_device(sequence, user)),
         19 => CheckEvent::Tick,
-        20 => CheckEvent::Deck(next_cards(alloc, sequence)?),
+        20 => match sequence.next_number() % 2 {
+            0 => next_transfer(sequence, files),
+            _ => CheckEvent::Deck(next_cards(alloc, sequence)?),
+        },
         21..=25 => CheckEvent::Line(text_for(alloc, user, sequence.pick(&TYPED))?),
         26 => CheckEvent::Line(text_for(alloc, user, sequence.pick(&TEXTS))?),
         other => CheckEvent::Line(next_talk(alloc, sequence, user, other, files)?),
     })
+}
+
+/// Draws a move of a deck from a sequence: one of the last eight of so many files, or one that is
+/// not there, to any user.
+fn next_transfer(sequence: &mut Sequence, files: u64) -> CheckEvent {
+    let back = u64::from(sequence.next_number() % 8);
+    let to = (sequence.next_number() % u32::from(USERS)) as u8;
+    CheckEvent::Transfer(files.saturating_sub(back), UserNo::new(to))
 }
 
 /// Draws the address of one of a user's devices from a sequence.

@@ -144,6 +144,10 @@ impl Talkers {
             CheckEvent::Serve(device) => self.serve(user, device)?,
             CheckEvent::Tick => self.machines.tick(user)?,
             CheckEvent::Deck(cards) => self.machines.deck(alloc, user, &cards)?,
+            CheckEvent::Transfer(id, to) => {
+                self.machines.transfer(alloc, user, id, to)?;
+                self.count_delivered();
+            }
             CheckEvent::Line(typed) => {
                 self.machines.line(alloc, user, typed.as_bytes())?;
                 self.count_delivered();

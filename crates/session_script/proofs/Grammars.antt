@@ -18,8 +18,9 @@ use Rattle.text_words.proofs.Spellings.{chosen, parts, alone, word_whole, word_a
 use Rattle.text_words.proofs.Spellings.{after_again_alone}
 use Rattle.session_script.specs.Users.{KnownUser, has_device, names_of}
 use Rattle.session_script.specs.Cards.{card_of, cards_in}
-use Rattle.session_script.specs.Script.{EventValue, Run, Line, Tick, Serve, Auto, Deck, auto_of, cards_after, counted}
-use Rattle.session_script.specs.Script.{dealt}
+use Rattle.text_words.specs.Words.{NoBlank}
+use Rattle.session_script.specs.Script.{EventValue, Run, Line, Tick, Serve, Auto, Deck, Transfer, auto_of, cards_after}
+use Rattle.session_script.specs.Script.{counted, dealt, receiver_of, transfer_of}
 use Rattle.session_script.specs.Script.{deck_of, is_ignored, joined, operands_of, read_on, run_of, said_of, serve_of}
 use Rattle.session_script.specs.Script.{served, text_of, tick_of, turned, typed_of}
 use Rattle.session_script.specs.Grammar.{IsName, SaysLine, Says, Reads, ReadsGrammar}
@@ -177,6 +178,41 @@ deck_found users line operands after e spelled h =
       punched = refl;
     }))))
 
+received_by : (users : List KnownUser) (line operands following receiver : List ℕ) (after : List (List ℕ))
+    (e : EventValue) (user id : ℕ) (o : Option ℕ) → user_of (names_of users) receiver ≡ o
+    → line ≡ codes "TRANSFER" ++ 32 ∷ operands → after_word operands ≡ Some following
+    → after_word following ≡ Some receiver → user_of (names_of users) (word_of operands) ≡ Some user
+    → decimal_of 7 (word_of following) ≡ Some id → option_map (Transfer user id) o ≡ Some e → Says users line after e
+received_by users line operands following receiver after e user id None found spelled follows last named number h = cc
+received_by users line operands following receiver after e user id (Some to) found spelled follows last named number h =
+    let same : Transfer user id to ≡ e = cc in
+    subst (Says users line after) same (record {
+      name = word_of operands;
+      digits = word_of following;
+      receiver = receiver;
+      spelled = spelled ∙ ap (λ (l : List ℕ). codes "TRANSFER" ++ 32 ∷ l) (parts operands following follows
+          ∙ ap (λ (l : List ℕ). word_of operands ++ 32 ∷ l) (parts following receiver last));
+      named = record { whole = word_whole operands; found = named };
+      whole = word_whole following;
+      number = number;
+      found = found;
+    })
+
+transfer_found : (users : List KnownUser) (line operands : List ℕ) (after : List (List ℕ)) (e : EventValue)
+    → line ≡ codes "TRANSFER" ++ 32 ∷ operands → transfer_of (names_of users) operands ≡ Some e
+    → Says users line after e
+transfer_found users line operands after e spelled h =
+    let names = names_of users in
+    option_and_then_some (λ user. option_and_then (receiver_of names user) (after_word operands))
+    (user_of names (word_of operands)) e h (λ user named h1.
+    option_and_then_some (receiver_of names user) (after_word operands) e h1 (λ following follows h2.
+    option_and_then_some (λ id. option_and_then (λ name. option_map (Transfer user id) (user_of names name))
+    (after_word following)) (decimal_of 7 (word_of following)) e h2 (λ id number h3.
+    option_and_then_some (λ name. option_map (Transfer user id) (user_of names name)) (after_word following) e h3
+    (λ receiver last h4.
+    received_by users line operands following receiver after e user id (user_of names receiver) refl spelled follows
+    last named number h4))))
+
 -- what one of the words names, where the line's first word is it
 picked : (users : List KnownUser) (line verb operands : List ℕ) (after : List (List ℕ)) (e : EventValue) (word : List ℕ)
     (own others : Option EventValue) → line ≡ verb ++ 32 ∷ operands
@@ -192,7 +228,8 @@ picked users line verb operands after e word own others spelled here there h = e
 found_on : (users : List KnownUser) (line verb operands : List ℕ) (after : List (List ℕ)) (e : EventValue)
     → line ≡ verb ++ 32 ∷ operands → operands_of users verb operands after ≡ Some e → Says users line after e
 found_on users line verb operands after e spelled h =
-    let deck = cond (bytes_eq verb (codes "DECK")) (deck_of (names_of users) operands after) None in
+    let transfer = cond (bytes_eq verb (codes "TRANSFER")) (transfer_of (names_of users) operands) None in
+    let deck = cond (bytes_eq verb (codes "DECK")) (deck_of (names_of users) operands after) transfer in
     let auto = cond (bytes_eq verb (codes "AUTO")) (auto_of operands) deck in
     let serve = cond (bytes_eq verb (codes "SERVE")) (serve_of users operands) auto in
     let tick = cond (bytes_eq verb (codes "TICK")) (tick_of (names_of users) operands) serve in
@@ -208,8 +245,10 @@ found_on users line verb operands after e spelled h =
     (λ s k. serve_found users line operands after e s k)
     (picked users line verb operands after e (codes "AUTO") (auto_of operands) deck spelled
     (λ s k. auto_found users line operands after e s k)
-    (picked users line verb operands after e (codes "DECK") (deck_of (names_of users) operands after) None spelled
-    (λ s k. deck_found users line operands after e s k) (λ k. cc)))))) h
+    (picked users line verb operands after e (codes "DECK") (deck_of (names_of users) operands after) transfer spelled
+    (λ s k. deck_found users line operands after e s k)
+    (picked users line verb operands after e (codes "TRANSFER") (transfer_of (names_of users) operands) None spelled
+    (λ s k. transfer_found users line operands after e s k) (λ k. cc))))))) h
 
 found : (users : List KnownUser) (line : List ℕ) (after : List (List ℕ)) (e : EventValue)
     → said_of users line after ≡ Some e
@@ -261,6 +300,22 @@ deck_again users user name digits own others named number least most =
     rw (word_again name digits named.whole, named.found, after_again name digits named.whole, number)
     (deal_again user (length own) own others refl least most)
 
+transfer_again : (users : List KnownUser) (user id to : ℕ) (name digits receiver : List ℕ)
+    → IsName (names_of users) user name → NoBlank digits → decimal_of 7 digits ≡ Some id
+    → user_of (names_of users) receiver ≡ Some to
+    → transfer_of (names_of users) (name ++ 32 ∷ (digits ++ 32 ∷ receiver)) ≡ Some (Transfer user id to)
+transfer_again users user id to name digits receiver named whole number found =
+    let following = digits ++ 32 ∷ receiver in
+    rw (
+      word_again name following named.whole,
+      named.found,
+      after_again name following named.whole,
+      word_again digits receiver whole,
+      number,
+      after_again digits receiver whole,
+      found,
+    ) refl
+
 again : (users : List KnownUser) (line : List ℕ) (after : List (List ℕ)) (e : EventValue) → Says users line after e
     → said_of users line after ≡ Some e
 again users line after (Run user units) h =
@@ -290,6 +345,8 @@ again users line after (Auto turns) h =
 again users line after (Deck user cards) h =
     rw (h.spelled, h.follow, h.punched) (deck_again users user h.name h.digits h.own h.others h.named h.number h.least
     h.most)
+again users line after (Transfer user id to) h =
+    rw h.spelled (transfer_again users user id to h.name h.digits h.receiver h.named h.whole h.number h.found)
 
 -- the cards of an event are among the lines after it
 few : (users : List KnownUser) (line : List ℕ) (after : List (List ℕ)) (e : EventValue) → Says users line after e
@@ -299,6 +356,7 @@ few users line after (Line user text) h = omega arith
 few users line after (Tick user) h = omega arith
 few users line after (Serve user device) h = omega arith
 few users line after (Auto turns) h = omega arith
+few users line after (Transfer user id to) h = omega arith
 few users line after (Deck user cards) h =
     let own = ap length h.punched in
     let mapped = length-map h.own card_of in

@@ -7,8 +7,8 @@ use Rattle.text_words.specs.Numbers.{decimal_of, hexadecimal_of}
 use Rattle.user_names.specs.Users.{user_of}
 use Rattle.session_script.specs.Users.{KnownUser, has_device, names_of}
 use Rattle.session_script.specs.Cards.{card_of}
-use Rattle.session_script.specs.Script.{EventValue, Run, Line, Tick, Serve, Auto, Deck, cards_after}
-use Rattle.session_script.specs.Script.{is_ignored, script_of}
+use Rattle.session_script.specs.Script.{EventValue, Run, Line, Tick, Serve, Auto, Deck, Transfer}
+use Rattle.session_script.specs.Script.{cards_after, is_ignored, script_of}
 
 -- a word that is the name of this user
 pub record IsName (names : List (List ℕ)) (user : ℕ) (name : List ℕ) : Type 0 where
@@ -72,6 +72,17 @@ pub record SaysDeck (names : List (List ℕ)) (line : List ℕ) (after : List (L
   pub follow : after ≡ own ++ others
   pub punched : cards ≡ map card_of own
 
+-- `TRANSFER A id B`: one blank between the words, id of 1 to 7 decimal digits
+pub record SaysTransfer (names : List (List ℕ)) (line : List ℕ) (user id to : ℕ) : Type 0 where
+  pub name : List ℕ
+  pub digits : List ℕ
+  pub receiver : List ℕ
+  pub spelled : line ≡ codes "TRANSFER" ++ 32 ∷ (name ++ 32 ∷ (digits ++ 32 ∷ receiver))
+  pub named : IsName names user name
+  pub whole : NoBlank digits
+  pub number : decimal_of 7 digits ≡ Some id
+  pub found : user_of names receiver ≡ Some to
+
 -- a line says an event, where these lines come after it
 abbrev pub Says : List KnownUser → List ℕ → List (List ℕ) → EventValue → Type 0
 Says users line after (Run user units) = SaysRun (names_of users) line user units
@@ -80,6 +91,7 @@ Says users line after (Tick user) = SaysTick (names_of users) line user
 Says users line after (Serve user device) = SaysServe users line user device
 Says users line after (Auto turns) = SaysAuto line turns
 Says users line after (Deck user cards) = SaysDeck (names_of users) line after user cards
+Says users line after (Transfer user id to) = SaysTransfer (names_of users) line user id to
 
 -- these lines, of which the first so many are cards, say these events; so many of the lines after
 -- them are cards then. A card has at most 80 characters; each other line is ignored, or says the

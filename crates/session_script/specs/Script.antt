@@ -29,6 +29,8 @@ pub data EventValue : Type 0 where
   Auto : ℕ → EventValue
   -- the operator gives this user a deck of these cards
   Deck : ℕ → List (List ℕ) → EventValue
+  -- the operator moves the deck of this number from this user's reader to that of the other
+  Transfer : ℕ → ℕ → ℕ → EventValue
 
 -- the event that a value is
 abbrev pub said : ScriptEvent → EventValue
@@ -38,6 +40,7 @@ said (events.Tick user) = Tick user
 said (events.Serve user device) = Serve user device
 said (events.Auto turns) = Auto turns
 said (events.Deck user cards) = Deck user (cards_of cards)
+said (events.Transfer user id to) = Transfer user id to
 
 -- the user whom an event names; turns name nobody
 abbrev pub user_of_event : EventValue → Option ℕ
@@ -47,18 +50,20 @@ user_of_event (Tick user) = Some user
 user_of_event (Serve user device) = Some user
 user_of_event (Auto turns) = None
 user_of_event (Deck user cards) = Some user
+user_of_event (Transfer user id to) = Some user
 
 -- a user whom an event names is one of these
 abbrev pub IsOfUser : List KnownUser → EventValue → Type 0
 IsOfUser users event = IfSome (user_of_event event) (λ user. user < length users)
 
--- a device that an event names is one which the user has
+-- a device that an event names is one which the user has, and a receiver is one of these users
 abbrev pub IsOfDevice : List KnownUser → EventValue → Type 0
 IsOfDevice users (Run user units) = Unit {0}
 IsOfDevice users (Line user text) = Unit {0}
 IsOfDevice users (Tick user) = Unit {0}
 IsOfDevice users (Auto turns) = Unit {0}
 IsOfDevice users (Deck user cards) = Unit {0}
+IsOfDevice users (Transfer user id to) = to < length users
 IsOfDevice users (Serve user device) = has_device users user device ≡ true
 
 -- a number of units is 1 to 1,000,000
@@ -118,6 +123,19 @@ deck_of names operands after =
     option_and_then (λ digits. option_and_then (dealt user after) (decimal_of 7 digits))
     (after_word operands)) (user_of names (word_of operands))
 
+-- `id B` of `TRANSFER A id B`: the number of a deck and its receiver
+abbrev pub receiver_of : List (List ℕ) → ℕ → List ℕ → Option EventValue
+receiver_of names user operands =
+    option_and_then (λ id.
+    option_and_then (λ name. option_map (Transfer user id) (user_of names name))
+    (after_word operands)) (decimal_of 7 (word_of operands))
+
+-- `TRANSFER A id B`, after its first word
+abbrev pub transfer_of : List (List ℕ) → List ℕ → Option EventValue
+transfer_of names operands =
+    option_and_then (λ user. option_and_then (receiver_of names user) (after_word operands))
+    (user_of names (word_of operands))
+
 -- by the first word
 abbrev pub operands_of : List KnownUser → List ℕ → List ℕ → List (List ℕ) → Option EventValue
 operands_of users verb operands after =
@@ -127,6 +145,7 @@ operands_of users verb operands after =
     else if bytes_eq verb (codes "SERVE") then serve_of users operands
     else if bytes_eq verb (codes "AUTO") then auto_of operands
     else if bytes_eq verb (codes "DECK") then deck_of (names_of users) operands after
+    else if bytes_eq verb (codes "TRANSFER") then transfer_of (names_of users) operands
     else None
 
 -- what a line names before these lines, none where it is refused
@@ -147,6 +166,7 @@ cards_after (Line user text) = 0
 cards_after (Tick user) = 0
 cards_after (Serve user device) = 0
 cards_after (Auto turns) = 0
+cards_after (Transfer user id to) = 0
 
 -- how far a script is read: its events, and how many of the next lines are cards of the last of
 -- them

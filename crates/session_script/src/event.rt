@@ -20,6 +20,8 @@ pub enum ScriptEvent<'a> {
     Auto(u32),
     /// The operator gives a user a deck of these cards.
     Deck(UserNo, Cards<'a>),
+    /// The operator moves the deck of this number from a user's reader to another's.
+    Transfer(UserNo, u32, UserNo),
 }
 
 impl<'a> ScriptEvent<'a> {

@@ -7,8 +7,8 @@ ghost use Rattle.session_script.specs.Grammar.{ReadsGrammar};
 ghost use Rattle.session_script.specs.Script.{Auto, IsOfDevice, IsOfUser, IsRefusal, auto_of};
 ghost use Rattle.session_script.specs.Script.{MayRefuseMemory, takes_memory};
 ghost use Rattle.session_script.specs.Script.{deck_of, is_ignored, line_step, run_of, said};
-ghost use Rattle.session_script.specs.Script.{said_of, script_of, serve_of, step, tick_of};
-ghost use Rattle.session_script.specs.Script.{typed_of};
+ghost use Rattle.session_script.specs.Script.{receiver_of, said_of, script_of, serve_of, step};
+ghost use Rattle.session_script.specs.Script.{tick_of, transfer_of, typed_of};
 ghost use Rattle.session_script.specs.Users.{names_of};
 
 use crate::cards::Cards;
@@ -189,6 +189,8 @@ fn read_event<'a>(
         Some(ScriptEvent::Auto(turns_of(operands)?))
     } else if verb == b"DECK".as_slice() {
         read_deck(users, operands, after)
+    } else if verb == b"TRANSFER".as_slice() {
+        read_transfer(users, operands)
     } else {
         None
     }
@@ -296,6 +298,21 @@ fn read_deck<'a>(
     } else {
         None
     }
+}
+
+/// Returns the event of `TRANSFER u id v`, given what follows its first word; None if there is no
+/// such user.
+fn read_transfer<'a>(users: &[ScriptUser<'_>], operands: &'a [u8]) -> Option<ScriptEvent<'a>>
+    requires { length users.now ≤ MOST_USERS }
+    ensures users { IfSome result (λ event. IsOfUser users.now (said event)) }
+    ensures devices { IfSome result (λ event. IsOfDevice users.now (said event)) }
+    ensures event { option_map said result ≡ transfer_of (names_of users.now) operands.now }
+{
+    let (name, following) = cut_word(operands);
+    let user = user_of(users, name)?;
+    let (digits, receiver) = cut_word(following?);
+    let id = decimal_of(DIGITS, digits)?;
+    Some(ScriptEvent::Transfer(user, id, user_of(users, receiver?)?))
 }
 
 /// States that a script is read as its events, that nothing else is accepted, and that a text that

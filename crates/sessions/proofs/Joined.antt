@@ -5,7 +5,8 @@ use Rattle.std.specs.Prelude.{◌==◌}
 use Rattle.std.proofs.KnownBytes.{Appends-trans}
 use Rattle.text_words.specs.Lines.{lines_of}
 use Rattle.session_script.specs.Grammar.{Reads, ReadsGrammar, Says}
-use Rattle.session_script.specs.Script.{EventValue, Run, Line, Tick, Serve, Auto, Deck, cards_after, script_of}
+use Rattle.session_script.specs.Script.{EventValue, Run, Line, Tick, Serve, Auto, Deck, Transfer}
+use Rattle.session_script.specs.Script.{cards_after, script_of}
 use Rattle.session_script.specs.Users.{KnownUser}
 use Rattle.session_script.specs.Users.{names_of as names_in}
 use Rattle.machine_devices.specs.declared.files.FileNote.{FileNote}
@@ -59,6 +60,7 @@ says_more users line after more (Line user text) h = h
 says_more users line after more (Tick user) h = h
 says_more users line after more (Serve user device) h = h
 says_more users line after more (Auto turns) h = h
+says_more users line after more (Transfer user id to) h = h
 says_more users line after more (Deck user cards) h = record {
   name = h.name;
   digits = h.digits;

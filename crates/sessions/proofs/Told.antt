@@ -18,6 +18,7 @@ user_same (events.Line user text) = refl
 user_same (events.Tick user) = refl
 user_same (events.Serve user device) = refl
 user_same (events.Deck user cards) = refl
+user_same (events.Transfer user id to) = refl
 
 -- an event that happens is the one act of what was said
 pub acts_same : (event : Event) → acts_of (as_said event) ≡ Applies (as_said event) ∷ []
@@ -26,6 +27,7 @@ acts_same (events.Line user text) = refl
 acts_same (events.Tick user) = refl
 acts_same (events.Serve user device) = refl
 acts_same (events.Deck user cards) = refl
+acts_same (events.Transfer user id to) = refl
 
 -- the lines of a reply to an event that was said are those of the step
 pub told_alike : {W : Type 0} (i : Installation W) (detail : Detail) (what : EventValue) (old new : W) (reply : Reply)

@@ -9,7 +9,7 @@ use Rattle.machine_devices.specs.declared.event.Event.TheVariants as events
 use Rattle.machine_devices.specs.declared.files.FileNote.{FileNote}
 use Rattle.machine_devices.specs.declared.reply.Reply.{Reply}
 use Rattle.cp_dispatch.specs.declared.program.Program.{Program}
-use Rattle.session_script.specs.Script.{EventValue, Run, Line, Tick, Serve, Deck}
+use Rattle.session_script.specs.Script.{EventValue, Run, Line, Tick, Serve, Deck, Transfer}
 use Rattle.session_script.specs.Users.{KnownUser, has_device, names_of as names_in}
 
 -- its users, as scripts know them; each one's machine with its devices; and of each file what it
@@ -50,6 +50,7 @@ as_said (events.Line user text) = Line user text.now
 as_said (events.Tick user) = Tick user
 as_said (events.Serve user device) = Serve user device
 as_said (events.Deck user cards) = Deck user cards.now
+as_said (events.Transfer user id to) = Transfer user id to
 
 -- How an installation goes on: what is seen of it; what an event that a script says leaves of it,
 -- and what it replies; which event may want memory, and what that may leave; and whether it has

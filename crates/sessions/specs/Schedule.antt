@@ -11,7 +11,7 @@ use Rattle.cp_dispatch.specs.declared.program.Program.{Program}
 use Rattle.machine_panel.specs.declared.machine.Mode.{Mode}
 use Rattle.machine_panel.specs.declared.machine.Mode.TheVariants.{Off, Stopped, Running}
 use Rattle.machine_panel.specs.Ready.{is_ready}
-use Rattle.session_script.specs.Script.{EventValue, Run, Line, Tick, Serve, Deck, Auto}
+use Rattle.session_script.specs.Script.{EventValue, Run, Line, Tick, Serve, Deck, Transfer, Auto}
 use Rattle.session_script.specs.Users.{has_device}
 use Rattle.sessions.specs.Installed.{Installation, Installed, IsLineStated, Step, as_said}
 use Rattle.sessions.specs.Installed.{machine_at, subchannels_at}
@@ -46,6 +46,7 @@ acts_of (Line user text) = Applies (Line user text) ∷ []
 acts_of (Tick user) = Applies (Tick user) ∷ []
 acts_of (Serve user device) = Applies (Serve user device) ∷ []
 acts_of (Deck user cards) = Applies (Deck user cards) ∷ []
+acts_of (Transfer user id to) = Applies (Transfer user id to) ∷ []
 acts_of (Auto count) = turns count
 
 -- the cards of an event that is a deck; of another none
@@ -55,6 +56,7 @@ cards_said (Line user text) = []
 cards_said (Tick user) = []
 cards_said (Serve user device) = []
 cards_said (Deck user cards) = cards
+cards_said (Transfer user id to) = []
 cards_said (Auto count) = []
 
 -- the event of a script that asks for this
@@ -74,6 +76,7 @@ user_said (Line user text) = user
 user_said (Tick user) = user
 user_said (Serve user device) = user
 user_said (Deck user cards) = user
+user_said (Transfer user id to) = user
 user_said (Auto count) = 0
 
 -- an installation, the queue of the users who are dealt slices and the line of the programs that

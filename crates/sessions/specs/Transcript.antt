@@ -86,6 +86,7 @@ served_lines name (asked.Run user units) done = []
 served_lines name (asked.Line user typed) done = []
 served_lines name (asked.Tick user) done = []
 served_lines name (asked.Deck user cards) done = []
+served_lines name (asked.Transfer user id to) done = []
 served_lines name (asked.Auto turns) done = []
 
 -- a run and a serve are reported, and any other event only where it was out of frames

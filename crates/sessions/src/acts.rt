@@ -95,6 +95,9 @@ fn asked_by<'b, 'c: 'b>(event: &ScriptEvent<'c>, cards: &'b [Card]) -> Asked<'b>
             Asked::Event(Event::Serve(user, DevAddr::new(device)))
         }
         ScriptEvent::Deck(user, _) => Asked::Event(Event::Deck(user, cards)),
+        ScriptEvent::Transfer(user, id, to) => {
+            Asked::Event(Event::Transfer(user, u64::from(id), to))
+        }
         ScriptEvent::Auto(turns) => Asked::Turns(turns),
     }
 }

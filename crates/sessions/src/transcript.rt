@@ -226,7 +226,11 @@ fn append_serve(
 {
     match event {
         Event::Serve(_, device) => append_served(alloc, out, name, *device, done),
-        Event::Run(_, _) | Event::Line(_, _) | Event::Tick(_) | Event::Deck(_, _) => Ok(()),
+        Event::Run(_, _)
+        | Event::Line(_, _)
+        | Event::Tick(_)
+        | Event::Deck(_, _)
+        | Event::Transfer(_, _, _) => Ok(()),
     }
 }
 

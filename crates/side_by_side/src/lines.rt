@@ -220,4 +220,46 @@ impl SideBySide {
         wanted.delivered = self.delivered;
         same(answered == wanted, View::Answer)
     }
+
+    /// Moves the deck of this number from a user's reader to another's in the system, withdraws it
+    /// from the user's bare machine and gives it to the other's, and compares the replies; a deck
+    /// that does not wait is not moved.
+    pub fn transfer(
+        &mut self,
+        alloc: Global,
+        user: UserNo,
+        id: u64,
+        to: UserNo,
+    ) -> Result<(), SideError> {
+        // The prover finds what a reply may hold only where a function names it.
+        let _device: Option<DevAddr> = None;
+        let _response: Option<Response> = None;
+        let answered = self.system.apply(&Event::Transfer(user, id, to))?;
+        if self.count_out_of_frames(answered)? {
+            return Err(SideError::Differs(View::Answer));
+        }
+        let found = match self.bare(user)?.devices().queued(id) {
+            Some(deck) => Some((deck.sender(), deck.to_vec(alloc)?)),
+            None => None,
+        };
+        self.withdraw(user, id)?;
+        if let Some((sender, cards)) = found {
+            self.files = self.files.saturating_add(1);
+            self.delivered = self.take_deck(to.number(), self.files, sender, cards)?;
+        }
+        let mut wanted = reply(Ended::Done, UserResponse::Nothing, 0);
+        wanted.delivered = self.delivered;
+        same(answered == wanted, View::Answer)
+    }
+
+    /// Withdraws the deck of this number from the reader of a user's bare machine.
+    fn withdraw(&mut self, user: UserNo, id: u64) -> Result<(), SideError> {
+        match self.machines.get_mut(user.index()) {
+            Some(other_users) => {
+                other_users.bare.withdraw(id);
+                Ok(())
+            }
+            None => Err(SideError::NoSuchUser),
+        }
+    }
 }

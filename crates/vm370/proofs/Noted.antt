@@ -1,5 +1,5 @@
 -- The files that events of a system close are noted with their entries, and stay as they are.
-use Rattle.std.proofs.Common.{◌≡◌, ◌∙◌, ℕ, List, [], ◌∷◌, ap}
+use Rattle.std.proofs.Common.{◌≡◌, ◌∙◌, ℕ, List, [], ◌∷◌, Option, Some, None, ap}
 use Rattle.std.specs.Prelude.{slice_get}
 use Rattle.s370_channel.specs.Reading.{as_reached}
 use Rattle.cp_core.specs.Forgotten.{GoesOnAs, equipped_with}
@@ -10,7 +10,9 @@ use Rattle.machine_devices.specs.declared.event.Event.{Event}
 use Rattle.machine_devices.specs.declared.event.Event.TheVariants as events
 use Rattle.cp_core.proofs.Forgotten.{gone_at, user_with}
 use Rattle.machine_devices.specs.Equipped.{Equipped}
-use Rattle.machine_devices.specs.Notes.{deck_noted}
+use Rattle.machine_devices.specs.Notes.{deck_noted, move_noted}
+use Rattle.machine_devices.specs.Spooling.{deck_queued}
+use Rattle.unit_record.specs.Reader.{DeckValue}
 use Rattle.machine_devices.specs.declared.files.FileKind.TheVariants as kinds
 use Rattle.machine_devices.proofs.Lost.{FilesStay, full_same, none_closed}
 use Rattle.machine_devices.proofs.Written.{closed_files_stay}
@@ -44,6 +46,10 @@ module _ (old new : SystemView) (stay : (user : ℕ) → FilesStay (user_at old 
   decks_full user [] = tt
   decks_full user (card ∷ cards) = (tt, tt)
 
+  moves_full : (user : ℕ) (found : Option DeckValue) → AreFull (seen_in new) (move_noted user found)
+  moves_full user None = tt
+  moves_full user (Some deck) = (tt, tt)
+
   noted_full : (event : Event) → AreFull (seen_in new) (noted_by event old new)
   noted_full (events.Run user units) = tt
   noted_full (events.Line user typed) =
@@ -53,6 +59,7 @@ module _ (old new : SystemView) (stay : (user : ℕ) → FilesStay (user_at old 
   noted_full (events.Tick user) = tt
   noted_full (events.Serve user device) = tt
   noted_full (events.Deck user cards) = decks_full user cards.now
+  noted_full (events.Transfer user id to) = moves_full to (deck_queued (user_at old user).devices id)
 
 -- The files that an event closes are noted with their entries.
 pub notes_files : (one : SystemView) (step : Step SystemView) → HasHappened one step.said step.reply step.left

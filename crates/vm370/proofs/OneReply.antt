@@ -9,7 +9,7 @@ use Rattle.machine_devices.specs.Events.{IsSameEvent}
 use Rattle.machine_devices.specs.declared.event.Event.{Event}
 use Rattle.machine_devices.specs.declared.event.Event.TheVariants as events
 use Rattle.machine_devices.specs.declared.files.FileNote.{FileNote}
-use Rattle.session_script.specs.Script.{EventValue, Run, Line, Tick, Serve, Auto, Deck}
+use Rattle.session_script.specs.Script.{EventValue, Run, Line, Tick, Serve, Auto, Deck, Transfer}
 use Rattle.session_script.specs.Users.{KnownUser}
 use Rattle.sessions.specs.Installed.{Installed, as_said}
 use Rattle.sessions.specs.OneTranscript.{HaveOneReply}
@@ -24,6 +24,7 @@ number_said (Line user text) = 0
 number_said (Tick user) = 0
 number_said (Serve user device) = device
 number_said (Deck user cards) = 0
+number_said (Transfer user id to) = id
 number_said (Auto count) = count
 
 abbrev text_said : EventValue → List ℕ
@@ -32,7 +33,17 @@ text_said (Line user text) = text
 text_said (Tick user) = []
 text_said (Serve user device) = []
 text_said (Deck user cards) = []
+text_said (Transfer user id to) = []
 text_said (Auto count) = []
+
+abbrev receiver_said : EventValue → ℕ
+receiver_said (Transfer user id to) = to
+receiver_said (Run user units) = 0
+receiver_said (Line user text) = 0
+receiver_said (Tick user) = 0
+receiver_said (Serve user device) = 0
+receiver_said (Deck user cards) = 0
+receiver_said (Auto count) = 0
 
 said_same : (one other : Event) → as_said other ≡ as_said one → IsSameEvent one other
 said_same (events.Run user units) (events.Run other count) e = (ap user_said e, ap number_said e)
@@ -40,26 +51,38 @@ said_same (events.Run user units) (events.Line other text) e = absurd (cc)
 said_same (events.Run user units) (events.Tick other) e = absurd (cc)
 said_same (events.Run user units) (events.Serve other place) e = absurd (cc)
 said_same (events.Run user units) (events.Deck other deck) e = absurd (cc)
+said_same (events.Run user units) (events.Transfer other id to) e = absurd (cc)
 said_same (events.Line user typed) (events.Run other count) e = absurd (cc)
 said_same (events.Line user typed) (events.Line other text) e = (ap user_said e, ap text_said e)
 said_same (events.Line user typed) (events.Tick other) e = absurd (cc)
 said_same (events.Line user typed) (events.Serve other place) e = absurd (cc)
 said_same (events.Line user typed) (events.Deck other deck) e = absurd (cc)
+said_same (events.Line user typed) (events.Transfer other id to) e = absurd (cc)
 said_same (events.Tick user) (events.Run other count) e = absurd (cc)
 said_same (events.Tick user) (events.Line other text) e = absurd (cc)
 said_same (events.Tick user) (events.Tick other) e = ap user_said e
 said_same (events.Tick user) (events.Serve other place) e = absurd (cc)
 said_same (events.Tick user) (events.Deck other deck) e = absurd (cc)
+said_same (events.Tick user) (events.Transfer other id to) e = absurd (cc)
 said_same (events.Serve user device) (events.Run other count) e = absurd (cc)
 said_same (events.Serve user device) (events.Line other text) e = absurd (cc)
 said_same (events.Serve user device) (events.Tick other) e = absurd (cc)
 said_same (events.Serve user device) (events.Serve other place) e = (ap user_said e, ap number_said e)
 said_same (events.Serve user device) (events.Deck other deck) e = absurd (cc)
+said_same (events.Serve user device) (events.Transfer other id to) e = absurd (cc)
 said_same (events.Deck user cards) (events.Run other count) e = absurd (cc)
 said_same (events.Deck user cards) (events.Line other text) e = absurd (cc)
 said_same (events.Deck user cards) (events.Tick other) e = absurd (cc)
 said_same (events.Deck user cards) (events.Serve other place) e = absurd (cc)
 said_same (events.Deck user cards) (events.Deck other deck) e = (ap user_said e, ap cards_said e)
+said_same (events.Deck user cards) (events.Transfer other id to) e = absurd (cc)
+said_same (events.Transfer user id to) (events.Run other count) e = absurd (cc)
+said_same (events.Transfer user id to) (events.Line other text) e = absurd (cc)
+said_same (events.Transfer user id to) (events.Tick other) e = absurd (cc)
+said_same (events.Transfer user id to) (events.Serve other place) e = absurd (cc)
+said_same (events.Transfer user id to) (events.Deck other deck) e = absurd (cc)
+said_same (events.Transfer user id to) (events.Transfer other number receiver) e =
+    (ap user_said e, (ap number_said e, ap receiver_said e))
 
 -- ---- what is seen
 

@@ -13,3 +13,4 @@ refusal old (events.Line user text) may = may
 refusal old (events.Tick user) may = may
 refusal old (events.Serve user device) may = may
 refusal old (events.Deck user cards) may = may
+refusal old (events.Transfer user id to) may = may

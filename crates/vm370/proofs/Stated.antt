@@ -45,6 +45,7 @@ stated s (events.Tick user) h lacks = lacks
 stated s (events.Serve user device) h lacks =
     not_both (states_device device (slice_get s.directory user)) (sym (had s.directory user device) ∙ h) lacks
 stated s (events.Deck user cards) h lacks = lacks
+stated s (events.Transfer user id to) h lacks = omega (arith, h, lacks, known_count s.directory)
 
 -- ---- histories
 

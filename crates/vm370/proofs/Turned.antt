@@ -10,7 +10,7 @@ use Rattle.cp_core.specs.Local.{Step as SystemStep, comes_to, coming, local, loc
 use Rattle.cp_core.specs.System.{SystemView, user_at}
 use Rattle.cp_directory.specs.Users.{DirectoryUser}
 use Rattle.machine_devices.specs.Events.{user_of}
-use Rattle.machine_devices.specs.Life.{Event as Local, Units, Serve as Serves, Line as Types, Tick, Deck, Message}
+use Rattle.machine_devices.specs.Life.{Event as Local, Units, Serve as Serves, Line as Types, Tick, Deck, Message, Purge}
 use Rattle.machine_devices.specs.Turned.{HasNoLine, OnlyLinesTurn}
 use Rattle.machine_devices.specs.Working.{AreDeliveries, DeliveriesChangeNone, StartsAreNumbered}
 use Rattle.machine_devices.specs.UserDirectory.{is_logged_on}
@@ -41,6 +41,7 @@ no_line_more (Types world typed ∷ one) other h g = absurd h
 no_line_more (Tick ∷ one) other h g = no_line_more one other h g
 no_line_more (Deck deck ∷ one) other h g = no_line_more one other h g
 no_line_more (Message text ∷ one) other h g = no_line_more one other h g
+no_line_more (Purge id ∷ one) other h g = no_line_more one other h g
 
 no_line_if : (b : Bool) (events : List Local) → HasNoLine events → HasNoLine (if b then events else [])
 no_line_if true events h = h
@@ -111,6 +112,7 @@ module _ (law : OnlyLinesTurn) where
   run_part old (events.Tick user) one units ended e = absurd (cc)
   run_part old (events.Serve user device) one units ended e = absurd (cc)
   run_part old (events.Deck user cards) one units ended e = absurd (cc)
+  run_part old (events.Transfer user id to) one units ended e = absurd (cc)
 
   serve_part : (old : SystemView) (event : Event) (one device : ℕ) (ended : Ended) → as_said event ≡ Serve one device
       → HasNoLine (local_event old event ended)
@@ -119,6 +121,7 @@ module _ (law : OnlyLinesTurn) where
   serve_part old (events.Tick user) one device ended e = absurd (cc)
   serve_part old (events.Serve user served) one device ended e = serve_no_line served ended
   serve_part old (events.Deck user cards) one device ended e = absurd (cc)
+  serve_part old (events.Transfer user id to) one device ended e = absurd (cc)
 
   many : (users others : List DirectoryUser) → others ≡ users
       → length (map known_user others) ≡ length (map known_user users)

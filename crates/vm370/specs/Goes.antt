@@ -12,7 +12,8 @@ use Rattle.cp_core.specs.System.{SystemView, kept_at, machine_at, user_at, world
 use Rattle.machine_devices.specs.declared.event.Event.{Event}
 use Rattle.machine_devices.specs.declared.reply.Reply.{Reply}
 use Rattle.cp_directory.specs.Users.{DirectoryUser, addresses_of}
-use Rattle.session_script.specs.Script.{EventValue, Run, Line, Tick, Serve, Auto, Deck}
+use Rattle.machine_devices.specs.Spooling.{deck_queued}
+use Rattle.session_script.specs.Script.{EventValue, Run, Line, Tick, Serve, Auto, Deck, Transfer}
 use Rattle.session_script.specs.Users.{KnownUser}
 use Rattle.sessions.specs.Installed.{Installation, Installed, as_said}
 
@@ -48,7 +49,7 @@ pub record IsSpent (old : SystemView) (said : EventValue) (new : SystemView) : T
       → user_at new user ≡ user_at old user
 
 -- what was said may want memory: such lines, a device that is served and works on a program, but
--- for a minidisk's that is kept and may run again, and a deck that has cards
+-- for a minidisk's that is kept and may run again, a deck that has cards, and one that is moved
 abbrev pub MayRefuse : SystemView → EventValue → Type 0
 MayRefuse old (Run user units) = ⊥
 MayRefuse old (Line user text) = LineMay (world_of old user) text (user_at old user)
@@ -57,6 +58,7 @@ MayRefuse old (Serve user device) =
     IsSome (program_of device (machine_at old user).core.subchannels)
     × IsNoneKept device user (user_at old user) old.supply (kept_at old user)
 MayRefuse old (Deck user cards) = 0 < length cards
+MayRefuse old (Transfer user id to) = IsSome (deck_queued (user_at old user).devices id)
 MayRefuse old (Auto turns) = ⊥
 
 -- two systems have one directory, and volumes with the same serial numbers and sizes in one order
