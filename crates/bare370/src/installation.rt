@@ -104,11 +104,6 @@ impl Installation for OneMachine {
         if user.number() == 0 { BARE } else { &[] }
     }
 
-    /// Returns a new list of the addresses of the machine's devices, whichever user is asked for.
-    fn addresses(&self, alloc: Global, _user: UserNo) -> Result<Vec<u16>, AllocError> {
-        self.addresses.as_slice().to_vec(alloc)
-    }
-
     /// Returns whether the machine has a device of this address.
     fn has_device(&self, _user: UserNo, address: u16) -> bool {
         has_address(self.addresses.as_slice(), address)

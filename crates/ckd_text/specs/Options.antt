@@ -24,3 +24,7 @@ gives name rows = is_some (first_of name rows)
 pub record AreNamed (rows : List Row) (paths : VolumePaths) : Type 0 where
   pub out : first_of (codes "OUT") rows ≡ Some paths.out.now
   pub text : first_of (codes "TEXT") rows ≡ Some paths.text.now
+
+-- words give this path of an image
+abbrev pub NamesImage : List Row → List ℕ → Type 0
+NamesImage rows path = first_of (codes "IMAGE") rows ≡ Some path

@@ -1,13 +1,12 @@
 -- What mkvol and trackmap do for the words of a command line.
-use Rattle.std.specs.Prelude.{◌≡◌, ◌⊎◌, ℕ, true, List, [], codes, Option, Some}
-use Rattle.clap.specs.Words.{first_of}
+use Rattle.std.specs.Prelude.{◌≡◌, ◌⊎◌, ℕ, true, List, [], codes, Option}
 use Rattle.program_host.specs.Deeds.{Adds, Deed}
 use Rattle.program_host.specs.Ends.{IsToldUse}
-use Rattle.program_host.specs.Words.{is_taken, rows_named}
+use Rattle.program_host.specs.Words.{IsNamedBy, is_taken, rows_named}
 use Rattle.ckd_text.specs.Hosts.{Giving}
 use Rattle.ckd_text.specs.Made.{IsMade, IsUnmade}
 use Rattle.ckd_text.specs.Mapped.{IsMapped, IsUnmapped}
-use Rattle.ckd_text.specs.Options.{AreNamed, gives, mkvol_command, trackmap_command}
+use Rattle.ckd_text.specs.Options.{AreNamed, NamesImage, gives, mkvol_command, trackmap_command}
 use Rattle.ckd_text.specs.declared.arguments.VolumePaths.{VolumePaths}
 use Rattle.ckd_text.specs.declared.faults.ToolFailure.{ToolFailure}
 use Rattle.ckd_text.specs.declared.faults.ToolFailure.TheVariants as failures
@@ -38,7 +37,7 @@ abbrev pub IsMadeNamed : {F W : Type 0} → (List ℕ → Giving F)
     → (W → Option (List ℕ)) → (W → List ℕ) → List (List ℕ) → Option (List Deed)
     → Option (List Deed) → Type 0
 IsMadeNamed Opens Creates remaining contents held words old new = (paths : VolumePaths)
-    × AreNamed (rows_named mkvol_command words) paths
+    × IsNamedBy AreNamed mkvol_command words paths
     × IsMade Opens Creates remaining contents held paths old new
 
 -- nothing was begun, or no image was made by those paths
@@ -48,7 +47,7 @@ abbrev pub IsUnmadeNamed : {F W : Type 0} → (List ℕ → Giving F)
     → Option (List Deed) → ToolFailure → Type 0
 IsUnmadeNamed Opens Creates remaining read_failures contents failures words old new failure =
     IsUnbegun (IsMkvolMisused words) old new failure
-    ⊎ ((paths : VolumePaths) × AreNamed (rows_named mkvol_command words) paths
+    ⊎ ((paths : VolumePaths) × IsNamedBy AreNamed mkvol_command words paths
     × IsUnmade Opens Creates remaining read_failures contents failures paths old new failure)
 
 -- ---- trackmap
@@ -59,7 +58,7 @@ abbrev pub IsMappedNamed : {F P : Type 0} → (List ℕ → Giving F)
     → (P → List ℕ) → List (List ℕ) → Option (List Deed)
     → Option (List Deed) → Type 0
 IsMappedNamed Opens Prints remaining contents held words old new = (path : List ℕ)
-    × (first_of (codes "IMAGE") (rows_named trackmap_command words) ≡ Some path)
+    × IsNamedBy NamesImage trackmap_command words path
     × IsMapped Opens Prints remaining contents held path old new
 
 -- nothing was begun, or the map of that image was not printed
@@ -69,5 +68,5 @@ abbrev pub IsUnmappedNamed : {F P : Type 0} → (List ℕ → Giving F)
     → Option (List Deed) → ToolFailure → Type 0
 IsUnmappedNamed Opens Prints remaining read_failures contents failures words old new failure =
     IsUnbegun (IsTrackmapMisused words) old new failure
-    ⊎ ((path : List ℕ) × (first_of (codes "IMAGE") (rows_named trackmap_command words) ≡ Some path)
+    ⊎ ((path : List ℕ) × IsNamedBy NamesImage trackmap_command words path
     × IsUnmapped Opens Prints remaining read_failures contents failures path old new failure)

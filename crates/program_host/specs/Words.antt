@@ -24,3 +24,8 @@ is_taken command words = takes command words
 -- nothing is wrong with the words: none is unknown or missing, and none asks for help
 unfoldable pub HasNoFault : App → List (List ℕ) → Type 0
 HasNoFault command words = fault_of command words ≡ []
+
+-- words with which nothing is wrong name these options by this command
+abbrev pub IsNamedBy : {N : Type 0} → (List Row → N → Type 0) → App → List (List ℕ) → N → Type 0
+IsNamedBy Named command words options =
+    Named (rows_named command words) options × HasNoFault command words

@@ -1,2 +1,3 @@
 pub mod Grammars
 pub mod Decks
+pub mod Sought

@@ -226,6 +226,11 @@ MayRefuseMemory users number so_far (line ∷ lines) =
     × (step users number so_far.events so_far.cards line lines ≡ Ok next)
     × MayRefuseMemory users (number + 1) next lines)
 
+-- memory may be refused to a script: a line of it takes some, and each line before that is read
+abbrev pub ScriptTakesMemory : List KnownUser → List ℕ → Type 0
+ScriptTakesMemory users text =
+    MayRefuseMemory users 1 (record { events = []; cards = 0 }) (lines_of text)
+
 -- why a script is not read: memory, or this refusal
 abbrev pub IsRefusal : {A : Type 0} → Result A ℕ → ScriptError → Type 0
 IsRefusal script errors.Memory = Unit {0}

@@ -5,7 +5,7 @@ ghost use Rattle.std.specs.Option.{option_map};
 ghost use Rattle.text_words.specs.Lines.{lines_of};
 ghost use Rattle.session_script.specs.Grammar.{ReadsGrammar};
 ghost use Rattle.session_script.specs.Script.{Auto, IsOfDevice, IsOfUser, IsRefusal, auto_of};
-ghost use Rattle.session_script.specs.Script.{MayRefuseMemory, takes_memory};
+ghost use Rattle.session_script.specs.Script.{ScriptTakesMemory, takes_memory};
 ghost use Rattle.session_script.specs.Script.{deck_of, is_ignored, line_step, run_of, said};
 ghost use Rattle.session_script.specs.Script.{receiver_of, said_of, script_of, serve_of, step};
 ghost use Rattle.session_script.specs.Script.{tick_of, transfer_of, typed_of};
@@ -14,13 +14,13 @@ ghost use Rattle.session_script.specs.Users.{names_of};
 use crate::cards::Cards;
 use crate::event::ScriptEvent;
 use crate::punch::COLUMNS;
-use crate::user::{ScriptUser, has_device};
+use crate::user::{ScriptUsers, user_of};
 use std::alloc::Global;
 use text_words::lines::cut_line;
 use text_words::numbers::{decimal_of, hexadecimal_of};
 use text_words::words::cut_word;
 use thiserror::Error;
-use user_names::{MOST_USERS, user_of};
+use user_names::MOST_USERS;
 
 /// The most decimal digits of a number in a script.
 const DIGITS: usize = 7;
@@ -57,19 +57,21 @@ pub enum ScriptError {
 /// # Errors
 ///
 /// A `ScriptError`: the number of the first faulty line, or refused memory.
-pub fn read_script<'a>(
+pub fn read_script<'a, U: ScriptUsers>(
     alloc: Global,
-    users: &[ScriptUser<'_>],
+    users: &U,
     text: &'a [u8],
 ) -> Result<Vec<ScriptEvent<'a>>, ScriptError>
-    requires { length users.now ≤ MOST_USERS }
-    ensures ok { IfOk result (λ events. script_of users.now text.now ≡ Ok (map said events.items)) }
-    ensures users { IfOk result (λ events. All (λ e. IsOfUser users.now (said e)) events.items) }
+    requires { length (U.known users.now) ≤ MOST_USERS }
+    ensures ok { IfOk result (λ events. script_of (U.known users.now) text.now
+        ≡ Ok (map said events.items)) }
+    ensures users { IfOk result
+        (λ events. All (λ e. IsOfUser (U.known users.now) (said e)) events.items) }
     ensures devices { IfOk result
-        (λ events. All (λ e. IsOfDevice users.now (said e)) events.items) }
-    ensures err { IfErr result (IsRefusal (script_of users.now text.now)) }
-    ensures memory { result ≡ Err ScriptError.Memory → MayRefuseMemory users.now 1
-        (record { events = []; cards = 0 }) (lines_of text.now) }
+        (λ events. All (λ e. IsOfDevice (U.known users.now) (said e)) events.items) }
+    ensures err { IfErr result (IsRefusal (script_of (U.known users.now) text.now)) }
+    ensures memory { result ≡ Err ScriptError.Memory
+        → ScriptTakesMemory (U.known users.now) text.now }
 {
     let mut events = Vec::new(alloc);
     let mut rest = text;
@@ -86,27 +88,28 @@ pub fn read_script<'a>(
 
 /// Reads the line of this number and returns how many cards of the last event are left: if there
 /// were some, it is one of them, else the event that it names is appended.
-fn read_line<'a>(
-    users: &[ScriptUser<'_>],
+fn read_line<'a, U: ScriptUsers>(
+    users: &U,
     number: u64,
     cards: usize,
     line: &'a [u8],
     after: &'a [u8],
     events: &mut Vec<ScriptEvent<'a>>,
 ) -> Result<usize, ScriptError>
-    requires { length users.now ≤ MOST_USERS }
+    requires { length (U.known users.now) ≤ MOST_USERS }
     ensures ok { IfOk result (λ left.
-        step users.now number (map said events.old.items) cards line.now (lines_of after.now)
+        step (U.known users.now) number (map said events.old.items) cards line.now
+        (lines_of after.now)
         ≡ Ok (record { events = map said events.new.items; cards = left })) }
-    ensures users { All (λ e. IsOfUser users.now (said e)) events.old.items
-        → OnOk result (All (λ e. IsOfUser users.now (said e)) events.new.items) }
-    ensures devices { All (λ e. IsOfDevice users.now (said e)) events.old.items
-        → OnOk result (All (λ e. IsOfDevice users.now (said e)) events.new.items) }
+    ensures users { All (λ e. IsOfUser (U.known users.now) (said e)) events.old.items
+        → OnOk result (All (λ e. IsOfUser (U.known users.now) (said e)) events.new.items) }
+    ensures devices { All (λ e. IsOfDevice (U.known users.now) (said e)) events.old.items
+        → OnOk result (All (λ e. IsOfDevice (U.known users.now) (said e)) events.new.items) }
     ensures err { IfErr result
-        (IsRefusal (step users.now number (map said events.old.items) cards line.now
+        (IsRefusal (step (U.known users.now) number (map said events.old.items) cards line.now
         (lines_of after.now))) }
     ensures memory { result ≡ Err ScriptError.Memory
-        → takes_memory users.now cards line.now (lines_of after.now) ≡ true }
+        → takes_memory (U.known users.now) cards line.now (lines_of after.now) ≡ true }
 {
     if cards == 0 {
         return read_entry(users, number, line, after, events);
@@ -119,26 +122,27 @@ fn read_line<'a>(
 
 /// Appends the event that a line names, unless it is empty or a comment, and returns how many of
 /// the next lines are its cards.
-fn read_entry<'a>(
-    users: &[ScriptUser<'_>],
+fn read_entry<'a, U: ScriptUsers>(
+    users: &U,
     number: u64,
     line: &'a [u8],
     after: &'a [u8],
     events: &mut Vec<ScriptEvent<'a>>,
 ) -> Result<usize, ScriptError>
-    requires { length users.now ≤ MOST_USERS }
+    requires { length (U.known users.now) ≤ MOST_USERS }
     ensures ok { IfOk result (λ left.
-        line_step users.now number (map said events.old.items) line.now (lines_of after.now)
+        line_step (U.known users.now) number (map said events.old.items) line.now
+        (lines_of after.now)
         ≡ Ok (record { events = map said events.new.items; cards = left })) }
-    ensures users { All (λ e. IsOfUser users.now (said e)) events.old.items
-        → OnOk result (All (λ e. IsOfUser users.now (said e)) events.new.items) }
-    ensures devices { All (λ e. IsOfDevice users.now (said e)) events.old.items
-        → OnOk result (All (λ e. IsOfDevice users.now (said e)) events.new.items) }
+    ensures users { All (λ e. IsOfUser (U.known users.now) (said e)) events.old.items
+        → OnOk result (All (λ e. IsOfUser (U.known users.now) (said e)) events.new.items) }
+    ensures devices { All (λ e. IsOfDevice (U.known users.now) (said e)) events.old.items
+        → OnOk result (All (λ e. IsOfDevice (U.known users.now) (said e)) events.new.items) }
     ensures err { IfErr result
-        (IsRefusal (line_step users.now number (map said events.old.items) line.now
+        (IsRefusal (line_step (U.known users.now) number (map said events.old.items) line.now
         (lines_of after.now))) }
     ensures memory { result ≡ Err ScriptError.Memory
-        → takes_memory users.now 0 line.now (lines_of after.now) ≡ true }
+        → takes_memory (U.known users.now) 0 line.now (lines_of after.now) ≡ true }
 {
     if is_ignored(line) {
         return Ok(0);
@@ -165,15 +169,16 @@ fn is_ignored(line: &[u8]) -> bool
 
 /// Returns the event that a line names by its first word; None if it is no line of a script. The
 /// cards of a deck are the first lines of `after`.
-fn read_event<'a>(
-    users: &[ScriptUser<'_>],
+fn read_event<'a, U: ScriptUsers>(
+    users: &U,
     line: &'a [u8],
     after: &'a [u8],
 ) -> Option<ScriptEvent<'a>>
-    requires { length users.now ≤ MOST_USERS }
-    ensures users { IfSome result (λ event. IsOfUser users.now (said event)) }
-    ensures devices { IfSome result (λ event. IsOfDevice users.now (said event)) }
-    ensures event { option_map said result ≡ said_of users.now line.now (lines_of after.now) }
+    requires { length (U.known users.now) ≤ MOST_USERS }
+    ensures users { IfSome result (λ event. IsOfUser (U.known users.now) (said event)) }
+    ensures devices { IfSome result (λ event. IsOfDevice (U.known users.now) (said event)) }
+    ensures event { option_map said result
+        ≡ said_of (U.known users.now) line.now (lines_of after.now) }
 {
     let (verb, operands) = cut_word(line);
     let operands = operands?;
@@ -198,11 +203,11 @@ fn read_event<'a>(
 
 /// Returns the event of `RUN u n`, given what follows its first word; None if there is no such
 /// user, or n is not 1 to 1000000.
-fn read_run<'a>(users: &[ScriptUser<'_>], operands: &'a [u8]) -> Option<ScriptEvent<'a>>
-    requires { length users.now ≤ MOST_USERS }
-    ensures users { IfSome result (λ event. IsOfUser users.now (said event)) }
-    ensures devices { IfSome result (λ event. IsOfDevice users.now (said event)) }
-    ensures event { option_map said result ≡ run_of (names_of users.now) operands.now }
+fn read_run<'a, U: ScriptUsers>(users: &U, operands: &'a [u8]) -> Option<ScriptEvent<'a>>
+    requires { length (U.known users.now) ≤ MOST_USERS }
+    ensures users { IfSome result (λ event. IsOfUser (U.known users.now) (said event)) }
+    ensures devices { IfSome result (λ event. IsOfDevice (U.known users.now) (said event)) }
+    ensures event { option_map said result ≡ run_of (names_of (U.known users.now)) operands.now }
 {
     let (name, digits) = cut_word(operands);
     let user = user_of(users, name)?;
@@ -216,11 +221,11 @@ fn read_run<'a>(users: &[ScriptUser<'_>], operands: &'a [u8]) -> Option<ScriptEv
 
 /// Returns the event of `LINE u text`, given what follows its first word; None if there is no such
 /// user. An empty text may have no blank before it.
-fn read_typed<'a>(users: &[ScriptUser<'_>], operands: &'a [u8]) -> Option<ScriptEvent<'a>>
-    requires { length users.now ≤ MOST_USERS }
-    ensures users { IfSome result (λ event. IsOfUser users.now (said event)) }
-    ensures devices { IfSome result (λ event. IsOfDevice users.now (said event)) }
-    ensures event { option_map said result ≡ typed_of (names_of users.now) operands.now }
+fn read_typed<'a, U: ScriptUsers>(users: &U, operands: &'a [u8]) -> Option<ScriptEvent<'a>>
+    requires { length (U.known users.now) ≤ MOST_USERS }
+    ensures users { IfSome result (λ event. IsOfUser (U.known users.now) (said event)) }
+    ensures devices { IfSome result (λ event. IsOfDevice (U.known users.now) (said event)) }
+    ensures event { option_map said result ≡ typed_of (names_of (U.known users.now)) operands.now }
 {
     let (name, text) = cut_word(operands);
     let user = user_of(users, name)?;
@@ -232,11 +237,11 @@ fn read_typed<'a>(users: &[ScriptUser<'_>], operands: &'a [u8]) -> Option<Script
 
 /// Returns the event of `TICK u`, given what follows its first word; None if there is no such user
 /// or more follows.
-fn read_tick<'a>(users: &[ScriptUser<'_>], operands: &'a [u8]) -> Option<ScriptEvent<'a>>
-    requires { length users.now ≤ MOST_USERS }
-    ensures users { IfSome result (λ event. IsOfUser users.now (said event)) }
-    ensures devices { IfSome result (λ event. IsOfDevice users.now (said event)) }
-    ensures event { option_map said result ≡ tick_of (names_of users.now) operands.now }
+fn read_tick<'a, U: ScriptUsers>(users: &U, operands: &'a [u8]) -> Option<ScriptEvent<'a>>
+    requires { length (U.known users.now) ≤ MOST_USERS }
+    ensures users { IfSome result (λ event. IsOfUser (U.known users.now) (said event)) }
+    ensures devices { IfSome result (λ event. IsOfDevice (U.known users.now) (said event)) }
+    ensures event { option_map said result ≡ tick_of (names_of (U.known users.now)) operands.now }
 {
     let (name, more) = cut_word(operands);
     if more.is_some() {
@@ -248,16 +253,16 @@ fn read_tick<'a>(users: &[ScriptUser<'_>], operands: &'a [u8]) -> Option<ScriptE
 
 /// Returns the event of `SERVE u addr`, given what follows its first word; None if there is no such
 /// user, or he has no such device.
-fn read_serve<'a>(users: &[ScriptUser<'_>], operands: &'a [u8]) -> Option<ScriptEvent<'a>>
-    requires { length users.now ≤ MOST_USERS }
-    ensures users { IfSome result (λ event. IsOfUser users.now (said event)) }
-    ensures devices { IfSome result (λ event. IsOfDevice users.now (said event)) }
-    ensures event { option_map said result ≡ serve_of users.now operands.now }
+fn read_serve<'a, U: ScriptUsers>(users: &U, operands: &'a [u8]) -> Option<ScriptEvent<'a>>
+    requires { length (U.known users.now) ≤ MOST_USERS }
+    ensures users { IfSome result (λ event. IsOfUser (U.known users.now) (said event)) }
+    ensures devices { IfSome result (λ event. IsOfDevice (U.known users.now) (said event)) }
+    ensures event { option_map said result ≡ serve_of (U.known users.now) operands.now }
 {
     let (name, digits) = cut_word(operands);
     let user = user_of(users, name)?;
     let address = hexadecimal_of(DEVICE_DIGITS, DEVICE_DIGITS, digits?)? as u16;
-    if has_device(users, user, address) {
+    if users.has_device(user, address) {
         Some(ScriptEvent::Serve(user, address))
     } else {
         None
@@ -279,16 +284,16 @@ fn turns_of(operands: &[u8]) -> Option<u32>
 
 /// Returns the event of `DECK u k`, given what follows its first word, with the first k lines of
 /// `after` as cards; None if there is no such user, k is not 1 to 1000, or there are fewer lines.
-fn read_deck<'a>(
-    users: &[ScriptUser<'_>],
+fn read_deck<'a, U: ScriptUsers>(
+    users: &U,
     operands: &'a [u8],
     after: &'a [u8],
 ) -> Option<ScriptEvent<'a>>
-    requires { length users.now ≤ MOST_USERS }
-    ensures users { IfSome result (λ event. IsOfUser users.now (said event)) }
-    ensures devices { IfSome result (λ event. IsOfDevice users.now (said event)) }
+    requires { length (U.known users.now) ≤ MOST_USERS }
+    ensures users { IfSome result (λ event. IsOfUser (U.known users.now) (said event)) }
+    ensures devices { IfSome result (λ event. IsOfDevice (U.known users.now) (said event)) }
     ensures event { option_map said result
-        ≡ deck_of (names_of users.now) operands.now (lines_of after.now) }
+        ≡ deck_of (names_of (U.known users.now)) operands.now (lines_of after.now) }
 {
     let (name, digits) = cut_word(operands);
     let user = user_of(users, name)?;

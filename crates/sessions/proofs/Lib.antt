@@ -14,7 +14,6 @@ pub mod Sessions
 pub mod Continuing
 pub mod Noted
 pub mod Joined
-pub mod UsersKnown
 pub mod Changes
 mod Holding
 mod Queuing

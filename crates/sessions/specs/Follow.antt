@@ -3,7 +3,7 @@ use Rattle.std.specs.Prelude.{◌≡◌, ◌==◌, ℕ, Bool, true, if◌then◌
 use Rattle.std.specs.Prelude.{◌⊎◌, Option, Some, None, Result, Ok, Err}
 use Rattle.std.specs.Io.KnownBytes.{Appends}
 use Rattle.text_words.specs.Lines.{lines_of}
-use Rattle.session_script.specs.Script.{EventValue, script_of}
+use Rattle.session_script.specs.Script.{EventValue, ScriptTakesMemory, script_of}
 use Rattle.session_script.specs.Users.{KnownUser}
 use Rattle.sessions.specs.Files.{closing_lines}
 use Rattle.sessions.specs.Continuing.{ContinuesAs, but_printed}
@@ -41,6 +41,11 @@ ended_script (Err line) unended = Err line
 -- the script that a part is, or the line of it that is the first refused
 abbrev pub part_of : List KnownUser → List ℕ → Result (List EventValue) ℕ
 part_of users text = ended_script (script_of users text) (unended_line text)
+
+-- memory may be refused to a part: where it is read, or, if it is a script, where that is done
+abbrev pub PartTakesMemory : List KnownUser → List ℕ → Type 0
+PartTakesMemory users text = ScriptTakesMemory users text
+    ⊎ ((script : List EventValue) × (script_of users text ≡ Ok script) × HasWholeLines text)
 
 -- the text is a script; it was done, and its transcript was written; the scene to which it has led
 -- goes on as this one, which may have forgotten printed lines and entries of closed files

@@ -1,5 +1,5 @@
 -- Single units of a user, until one of them leaves what is sought.
-use Rattle.std.specs.Prelude.{◌≡◌, ◌==◌, ◌&&◌, ◌+◌, ◌≤◌, ℕ, Bool, true, false, List, [], ◌∷◌}
+use Rattle.std.specs.Prelude.{◌≡◌, ◌⊎◌, ◌==◌, ◌&&◌, ◌+◌, ◌≤◌, ℕ, Bool, true, false, List, [], ◌∷◌}
 use Rattle.std.specs.Prelude.{not, if◌then◌else◌, nat_eq, nat_le, length, drop, replicate}
 use Rattle.std.specs.Prelude.{slice_get, slice_index, slice_range}
 use Rattle.std.specs.Prelude.{Option, Some, None, Result, Ok, Err}
@@ -7,7 +7,7 @@ use Rattle.std.specs.Int.{w32, from_be_bytes}
 use Rattle.std.specs.Option.{option_and_then, option_eq}
 use Rattle.text_words.specs.Numbers.{hexadecimal_of}
 use Rattle.machine_panel.specs.Machine.{Machine}
-use Rattle.session_script.specs.Script.{EventValue, Run, script_of}
+use Rattle.session_script.specs.Script.{EventValue, Run, ScriptTakesMemory, script_of}
 use Rattle.session_script.specs.Users.{KnownUser}
 use Rattle.sessions.specs.Installed.{Installation, Step, machine_at}
 use Rattle.sessions.specs.Schedule.{Act, Scene, acts, steps_of}
@@ -47,6 +47,12 @@ seek_run sought other = None
 abbrev pub seek_of : List KnownUser → List ℕ → Option Seek
 seek_of users text =
     option_and_then (λ sought. seek_run sought (script_of users (drop 9 text))) (sought_of text)
+
+-- memory may be refused to a text: where its script is read, or, if it asks for units, where they
+-- run
+abbrev pub SeekTakesMemory : List KnownUser → List ℕ → Type 0
+SeekTakesMemory users text = ScriptTakesMemory users (drop 9 text)
+    ⊎ ((seek : Seek) × (seek_of users text ≡ Some seek))
 
 -- ---- what is found
 

@@ -8,9 +8,11 @@ ghost use Rattle.std.specs.Prelude.{OnErr, OnOk, length, map, true};
 ghost use Rattle.std.specs.Io.KnownBytes.{Keeps};
 ghost use Rattle.sessions.specs.Continuing.{ContinuesAs};
 ghost use Rattle.sessions.specs.Files.{lines_since};
-ghost use Rattle.session_script.specs.Script.{IsOfDevice, IsOfUser, IsRefusal, said, script_of};
+ghost use Rattle.session_script.specs.Script.{IsOfDevice, IsOfUser, IsRefusal, ScriptTakesMemory};
+ghost use Rattle.session_script.specs.Script.{said, script_of};
 ghost use Rattle.sessions.specs.Follow.{Became, BeginsWithNothing, EndsAsSession, HasWholeLines};
-ghost use Rattle.sessions.specs.Follow.{IsFollowedPartly, PartsJoin, part_of, unended_line};
+ghost use Rattle.sessions.specs.Follow.{IsFollowedPartly, PartTakesMemory, PartsJoin, part_of};
+ghost use Rattle.sessions.specs.Follow.{unended_line};
 ghost use Rattle.std.specs.List.{list_all};
 ghost use Rattle.sessions.specs.Held.{holds_lines};
 ghost use Rattle.sessions.specs.Installed.{is_stated, names_of};
@@ -20,7 +22,7 @@ ghost use Rattle.sessions.specs.Readers.{reader_lines};
 ghost use Rattle.sessions.specs.Runs.{AppendsScene, IsRestored, IsSceneSaved};
 ghost use Rattle.sessions.specs.Saved.{AppendsUser};
 ghost use Rattle.sessions.specs.Schedule.{Scene};
-ghost use Rattle.sessions.specs.Seek.{BecameSought, IsTextSoughtPartly};
+ghost use Rattle.sessions.specs.Seek.{BecameSought, IsTextSoughtPartly, SeekTakesMemory};
 ghost use Rattle.sessions.specs.Session.{Accounts, at_first};
 ghost use Rattle.sessions.specs.Transcript.{ended};
 ghost use Rattle.sessions.specs.declared.files.Telling.TheVariants.{Answer};
@@ -150,6 +152,8 @@ impl<I: Installation + Drop> Follower<I> {
             (W.contents writer.new)) }
         ensures why { Accounts result (I.goes.is_spent self.world) (I.goes.is_spent self.world)
             (W.HostFile.failures writer.old) (W.HostFile.failures writer.new) }
+        ensures memory { result ≡ Err PlayError.Memory
+            → PartTakesMemory (I.goes.seen self.world).users text.now }
     {
         let Follower {
             mut installation,
@@ -232,6 +236,8 @@ impl<I: Installation + Drop> Follower<I> {
             (W.contents writer.new)) }
         ensures why { Accounts result (I.goes.is_spent self.world) (I.goes.is_spent self.world)
             (W.HostFile.failures writer.old) (W.HostFile.failures writer.new) }
+        ensures memory { result ≡ Err PlayError.Memory
+            → SeekTakesMemory (I.goes.seen self.world).users text.now }
     {
         let Follower {
             mut installation,
@@ -499,6 +505,8 @@ fn read_part<'a, I: Installation>(
         (λ events. All (λ e. IsOfDevice (I.goes.seen installation.now).users (said e))
         events.items) }
     ensures err { IfErr result (IsRefusal (part_of (I.goes.seen installation.now).users text.now)) }
+    ensures memory { result ≡ Err ScriptError.Memory
+        → ScriptTakesMemory (I.goes.seen installation.now).users text.now }
 {
     let events = read_events(alloc, installation, text)?;
     match unended(text) {

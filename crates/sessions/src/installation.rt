@@ -4,7 +4,7 @@ ghost use Rattle.std.specs.Prelude.{OnErr, OnOk, length, slice_get};
 ghost use Rattle.std.specs.Option.{option_map};
 ghost use Rattle.s370_subchannels.specs.Subchannels.{AreAscending};
 ghost use Rattle.session_script.specs.Script.{IsOfDevice, IsOfUser};
-ghost use Rattle.session_script.specs.Users.{devices_of, has_device};
+ghost use Rattle.session_script.specs.Users.{has_device};
 ghost use Rattle.user_names.specs.Users.{name_of};
 ghost use Rattle.machine_devices.specs.Dropped.{AreDropped, outputs_of};
 ghost use Rattle.sessions.specs.Continuing.{IsToGoOn, but_printed};
@@ -49,15 +49,6 @@ pub trait Installation {
     /// Returns the name of a user.
     fn name(&self, user: UserNo) -> &[u8]
         ensures { result.now ≡ name_of (names_of ((goes).seen self.now)) user };
-
-    /// Returns the addresses of a user's devices.
-    ///
-    /// # Errors
-    ///
-    /// `AllocError` if memory is refused.
-    fn addresses(&self, alloc: Global, user: UserNo) -> Result<Vec<u16>, AllocError>
-        requires { user < length ((goes).seen self.now).users }
-        ensures { IfOk result (λ list. list.items ≡ devices_of ((goes).seen self.now).users user) };
 
     /// Returns whether a user has a device of this address.
     fn has_device(&self, user: UserNo, address: u16) -> bool

@@ -1,7 +1,7 @@
 //! Single units of a user, until one of them leaves what is sought.
 ghost use Rattle.std.specs.Prelude.{◌≡◌, ◌<◌, ◌≤◌, ℕ, All, IfOk, IfSome, List, Ok, OnErr, OnOk};
-ghost use Rattle.std.specs.Prelude.{length, map};
-ghost use Rattle.session_script.specs.Script.{IsOfUser, Run, said};
+ghost use Rattle.std.specs.Prelude.{drop, length, map};
+ghost use Rattle.session_script.specs.Script.{IsOfUser, Run, ScriptTakesMemory, said};
 ghost use Rattle.session_script.specs.Users.{KnownUser};
 ghost use Rattle.sessions.specs.Installed.{machine_at};
 ghost use Rattle.sessions.specs.Schedule.{IsOf, acts_of, scene};
@@ -58,6 +58,8 @@ pub(crate) fn read_seek<I: Installation>(
         (λ seek. seek ≡ seek_of (I.goes.seen installation.now).users text.now) }
     ensures user { IfOk result (λ seek. IfSome seek
         (λ seek. seek.user < length (I.goes.seen installation.now).users)) }
+    ensures memory { OnErr result
+        (ScriptTakesMemory (I.goes.seen installation.now).users (drop 9 text.now)) }
 {
     let Some(sought) = read_sought(text) else {
         return Ok(None);

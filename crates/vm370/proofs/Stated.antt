@@ -1,5 +1,5 @@
 -- Users and devices of a directory, as scripts know them.
-use Rattle.std.proofs.Common.{◌≡◌, ◌<◌, ℕ, arith, get_or, zero, suc, Bool, true, false, List, [], ◌∷◌, refl, ap, sym}
+use Rattle.std.proofs.Common.{◌≡◌, ℕ, zero, suc, Bool, true, false, List, [], ◌∷◌, refl, ap, sym}
 use Rattle.std.proofs.Common.{◌∙◌, length, map}
 use Rattle.std.specs.Prelude.{slice_get, slice_index_or}
 use Rattle.cp_core.specs.Histories.{IsHistory as IsSystemHistory}
@@ -8,8 +8,8 @@ use Rattle.cp_core.specs.Stated.{LacksDevice, states_device}
 use Rattle.cp_core.specs.System.{SystemView, names_of as names_in}
 use Rattle.machine_devices.specs.declared.event.Event.{Event}
 use Rattle.machine_devices.specs.declared.event.Event.TheVariants as events
-use Rattle.cp_directory.specs.Users.{DirectoryUser, addresses_of}
-use Rattle.session_script.specs.Users.{devices_of, has_device}
+use Rattle.cp_directory.specs.Users.{DirectoryUser}
+use Rattle.session_script.specs.Users.{has_device}
 use Rattle.session_script.specs.Script.{EventValue, IsOfDevice}
 use Rattle.sessions.specs.Installed.{IsHistory, Step, as_said, names_of}
 use Rattle.vm370.specs.Goes.{known_users, seen_in, system_goes}
@@ -67,10 +67,3 @@ histories first last (step ∷ steps) h =
     let one : SystemStep = record { event = h.0.event; reply = step.reply; seen = step.left } in
     let more = histories step.left last steps h.1 in
     (one ∷ more.0, together step steps one more.0 (step_of first step h.0.event h.0.named) more.1, (h.0.step, more.2))
-
--- scripts know the addresses of his devices
-pub known_devices : (directory : List DirectoryUser) (user : ℕ) (one : DirectoryUser) → user < length directory
-    → one ≡ get_or directory user one → addresses_of one ≡ devices_of (known_users directory) user
-known_devices [] user one h is = absurd (omega (arith, h))
-known_devices (u ∷ us) zero one h is = ap addresses_of is
-known_devices (u ∷ us) (suc user) one h is = known_devices us user one (omega (arith, h)) is

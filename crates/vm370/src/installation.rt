@@ -1,16 +1,11 @@
 //! The system as sessions know it.
-ghost use Rattle.std.specs.Prelude.{◌≡◌, ◌++◌, ◌<◌, ◌≤◌, IfOk, OnOk, length, map, slice_get};
-ghost use Rattle.std.specs.Option.{option_to_list};
-ghost use Rattle.cp_directory.specs.Devices.{places_of};
-ghost use Rattle.cp_directory.specs.Users.{addresses_of};
+ghost use Rattle.std.specs.Prelude.{◌≡◌, ◌<◌, ◌≤◌, length, slice_get};
 ghost use Rattle.cp_core.specs.Stated.{states_device};
-ghost use Rattle.session_script.specs.Users.{devices_of};
 ghost use Rattle.user_names.specs.Users.{name_of};
 ghost use Rattle.sessions.specs.Installed.{names_of};
 ghost use Rattle.vm370.specs.Goes.{known_users, seen_in, system_goes};
 
 use cp_core::{CpError, System, one_by_saved, printed_lines_do_not_matter};
-use cp_directory::{MinidiskStatement, User, UserDevices};
 use machine_devices::{
     Event, FileNote, Reply, SeenDevices, only_lines_turn, what_works_has_a_program,
 };
@@ -77,11 +72,6 @@ impl Installation for SharedMachines {
     /// Returns the name of a user; empty if there is no such user.
     fn name(&self, user: UserNo) -> &[u8] {
         name_in(&self.system, user)
-    }
-
-    /// Returns a new list of the addresses of a user's devices and minidisks.
-    fn addresses(&self, alloc: Global, user: UserNo) -> Result<Vec<u16>, AllocError> {
-        addresses_in(alloc, &self.system, self.place(user))
     }
 
     /// Returns whether the directory gives a user a device or a minidisk of this address.
@@ -249,61 +239,5 @@ fn states_device(system: &System, user: UserNo, device: DevAddr) -> bool
     match system.directory().users().get(user.index()) {
         Some(user) => user.has_device(device),
         None => false,
-    }
-}
-
-/// Returns a new list of the addresses of the devices and minidisks of a user, who has to be in the
-/// directory.
-fn addresses_in(alloc: Global, system: &System, user: UserNo) -> Result<Vec<u16>, AllocError>
-    requires { user < length system.now.directory }
-    ensures { IfOk result (λ list. list.items
-        ≡ devices_of (known_users system.now.directory) user) }
-{
-    let list = addresses_of(alloc, &system.directory().users()[user.index()])?;
-    Ok(list)
-}
-
-/// Returns a new list of the addresses of the devices and minidisks of a user.
-fn addresses_of(alloc: Global, user: &User) -> Result<Vec<u16>, AllocError>
-    ensures { IfOk result (λ list. list.items ≡ addresses_of user.now) }
-{
-    let mut list = Vec::new(alloc);
-    add_places(&mut list, user.devices())?;
-    add_disks(&mut list, user.minidisks())?;
-    Ok(list)
-}
-
-/// Appends the addresses of console, reader, punch and printer, of those that a user has.
-fn add_places(list: &mut Vec<u16>, devices: UserDevices) -> Result<(), AllocError>
-    ensures { OnOk result (list.new.items ≡ list.old.items ++ places_of devices) }
-{
-    add_place(list, devices.console)?;
-    add_place(list, devices.reader)?;
-    add_place(list, devices.punch)?;
-    add_place(list, devices.printer)?;
-    Ok(())
-}
-
-/// Appends the addresses of these minidisks.
-fn add_disks(list: &mut Vec<u16>, disks: &[MinidiskStatement]) -> Result<(), AllocError>
-    ensures { OnOk result (list.new.items ≡ list.old.items
-        ++ map (λ disk. disk.address) disks.now) }
-{
-    for disk in disks {
-        list.push(disk.address.get())?;
-    }
-    Ok(())
-}
-
-/// Appends the address of a device, if the user has it.
-fn add_place(list: &mut Vec<u16>, place: Option<DevAddr>) -> Result<(), AllocError>
-    ensures { OnOk result (list.new.items ≡ list.old.items ++ option_to_list place) }
-{
-    match place {
-        Some(address) => {
-            list.push(address.get())?;
-            Ok(())
-        }
-        None => Ok(()),
     }
 }

@@ -1,5 +1,6 @@
 use Rattle.std.proofs.Common.{inl, inr}
-use Rattle.std.proofs.lemmas.Result.{IfErr-at_err, IfErr-weaker, IfOk-at_ok, on_ok_weaker}
+use Rattle.std.proofs.lemmas.Result.{IfErr-at_err, IfErr-weaker, on_ok_weaker}
+use Rattle.program_host.proofs.Named.{named_by}
 use Rattle.ckd_text.proofs.Hosts.{unbegun}
 use Rattle.ckd_text.proofs.mkvol.obey.Goals as goal
 
@@ -14,10 +15,10 @@ returns-in-Err-clause-err g c =
 pub returns-clause-ok : goal.returns-clause-ok
 returns-clause-ok g c =
     on_ok_weaker c.make_image.result
-    (λ done. (c.in-Ok.paths, IfOk-at_ok _ c.in-Ok.is c.volume_paths.ensures.ok, done)) c.make_image.ensures.ok
+    (λ done. (c.in-Ok.paths, named_by _ _ c.in-Ok.is c.volume_paths.ensures.ok c.volume_paths.ensures.taken, done)) c.make_image.ensures.ok
 
 pub returns-clause-err : goal.returns-clause-err
 returns-clause-err g c =
     IfErr-weaker c.make_image.result _ _
-    (λ failure failed. inr (c.in-Ok.paths, IfOk-at_ok _ c.in-Ok.is c.volume_paths.ensures.ok, failed))
+    (λ failure failed. inr (c.in-Ok.paths, named_by _ _ c.in-Ok.is c.volume_paths.ensures.ok c.volume_paths.ensures.taken, failed))
     c.make_image.ensures.err

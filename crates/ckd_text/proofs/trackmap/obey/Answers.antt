@@ -1,5 +1,6 @@
 use Rattle.std.proofs.Common.{inl, inr}
-use Rattle.std.proofs.lemmas.Result.{IfErr-at_err, IfErr-weaker, IfOk-at_ok, on_ok_weaker}
+use Rattle.std.proofs.lemmas.Result.{IfErr-at_err, IfErr-weaker, on_ok_weaker}
+use Rattle.program_host.proofs.Named.{named_by}
 use Rattle.ckd_text.proofs.Hosts.{unbegun}
 use Rattle.ckd_text.proofs.trackmap.obey.Goals as goal
 
@@ -14,10 +15,10 @@ returns-in-Err-clause-err g c =
 pub returns-clause-ok : goal.returns-clause-ok
 returns-clause-ok g c =
     on_ok_weaker c.print_map.result
-    (λ done. (c.in-Ok.path.now, IfOk-at_ok _ c.in-Ok.is c.image_path.ensures.ok, done)) c.print_map.ensures.ok
+    (λ done. (c.in-Ok.path.now, named_by _ _ c.in-Ok.is c.image_path.ensures.ok c.image_path.ensures.taken, done)) c.print_map.ensures.ok
 
 pub returns-clause-err : goal.returns-clause-err
 returns-clause-err g c =
     IfErr-weaker c.print_map.result _ _
-    (λ failure failed. inr (c.in-Ok.path.now, IfOk-at_ok _ c.in-Ok.is c.image_path.ensures.ok, failed))
+    (λ failure failed. inr (c.in-Ok.path.now, named_by _ _ c.in-Ok.is c.image_path.ensures.ok c.image_path.ensures.taken, failed))
     c.print_map.ensures.err

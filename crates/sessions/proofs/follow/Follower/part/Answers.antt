@@ -1,4 +1,4 @@
-use Rattle.std.proofs.Common.{◌≡◌, List, Ok, map, subst}
+use Rattle.std.proofs.Common.{◌≡◌, List, Ok, inr, map, subst}
 use Rattle.session_script.specs.Script.{said, script_of}
 use Rattle.session_script.specs.declared.event.ScriptEvent.{ScriptEvent}
 use Rattle.sessions.specs.Schedule.{Scene, acts, scene}
@@ -23,3 +23,11 @@ returns-clause-ok g c =
     c.play.new.policy s.detail before after accepted played c.forget_printed.ensures.on
     c.forget_printed.ensures.seen in
     (c.in-Ok.ensures.whole, followed.0, followed.1)
+
+pub returns-in_err-play-clause-memory : goal.returns-in_err-play-clause-memory
+returns-in_err-play-clause-memory g c = λ _.
+    let i = g.I.Installation.goes in
+    let script = map said c.in-Ok.events.items in
+    let accepted = subst (λ (old : Scene _). script_of
+    (i.seen old.world).users c.args.text.now ≡ Ok script) c.self.view_is c.in-Ok.ensures.ok in
+    inr (script, accepted, c.in-Ok.ensures.whole)
