@@ -307,11 +307,12 @@ fn read_deck<'a, U: ScriptUsers>(
 
 /// Returns the event of `TRANSFER u id v`, given what follows its first word; None if there is no
 /// such user.
-fn read_transfer<'a>(users: &[ScriptUser<'_>], operands: &'a [u8]) -> Option<ScriptEvent<'a>>
-    requires { length users.now ≤ MOST_USERS }
-    ensures users { IfSome result (λ event. IsOfUser users.now (said event)) }
-    ensures devices { IfSome result (λ event. IsOfDevice users.now (said event)) }
-    ensures event { option_map said result ≡ transfer_of (names_of users.now) operands.now }
+fn read_transfer<'a, U: ScriptUsers>(users: &U, operands: &'a [u8]) -> Option<ScriptEvent<'a>>
+    requires { length (U.known users.now) ≤ MOST_USERS }
+    ensures users { IfSome result (λ event. IsOfUser (U.known users.now) (said event)) }
+    ensures devices { IfSome result (λ event. IsOfDevice (U.known users.now) (said event)) }
+    ensures event { option_map said result
+        ≡ transfer_of (names_of (U.known users.now)) operands.now }
 {
     let (name, following) = cut_word(operands);
     let user = user_of(users, name)?;
