@@ -14,11 +14,10 @@ returns-in-Err-clause-err g c =
 
 pub returns-clause-ok : goal.returns-clause-ok
 returns-clause-ok g c =
-    on_ok_weaker c.make_image.result
-    (λ done. (c.in-Ok.paths, named_by _ _ c.in-Ok.is c.volume_paths.ensures.ok c.volume_paths.ensures.taken, done)) c.make_image.ensures.ok
+    let named = named_by _ _ c.in-Ok.is c.volume_paths.ensures.ok c.volume_paths.ensures.taken in
+    on_ok_weaker c.make_image.result (λ done. (c.in-Ok.paths, named, done)) c.make_image.ensures.ok
 
 pub returns-clause-err : goal.returns-clause-err
 returns-clause-err g c =
-    IfErr-weaker c.make_image.result _ _
-    (λ failure failed. inr (c.in-Ok.paths, named_by _ _ c.in-Ok.is c.volume_paths.ensures.ok c.volume_paths.ensures.taken, failed))
-    c.make_image.ensures.err
+    let named = named_by _ _ c.in-Ok.is c.volume_paths.ensures.ok c.volume_paths.ensures.taken in
+    IfErr-weaker c.make_image.result _ _ (λ failure failed. inr (c.in-Ok.paths, named, failed)) c.make_image.ensures.err

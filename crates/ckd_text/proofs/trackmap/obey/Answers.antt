@@ -14,11 +14,12 @@ returns-in-Err-clause-err g c =
 
 pub returns-clause-ok : goal.returns-clause-ok
 returns-clause-ok g c =
-    on_ok_weaker c.print_map.result
-    (λ done. (c.in-Ok.path.now, named_by _ _ c.in-Ok.is c.image_path.ensures.ok c.image_path.ensures.taken, done)) c.print_map.ensures.ok
+    let path = c.in-Ok.path.now in
+    let named = named_by _ _ c.in-Ok.is c.image_path.ensures.ok c.image_path.ensures.taken in
+    on_ok_weaker c.print_map.result (λ done. (path, named, done)) c.print_map.ensures.ok
 
 pub returns-clause-err : goal.returns-clause-err
 returns-clause-err g c =
-    IfErr-weaker c.print_map.result _ _
-    (λ failure failed. inr (c.in-Ok.path.now, named_by _ _ c.in-Ok.is c.image_path.ensures.ok c.image_path.ensures.taken, failed))
-    c.print_map.ensures.err
+    let path = c.in-Ok.path.now in
+    let named = named_by _ _ c.in-Ok.is c.image_path.ensures.ok c.image_path.ensures.taken in
+    IfErr-weaker c.print_map.result _ _ (λ failure failed. inr (path, named, failed)) c.print_map.ensures.err

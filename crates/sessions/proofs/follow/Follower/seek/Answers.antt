@@ -31,5 +31,8 @@ returns-in_err-found-clause-memory g c = λ _.
     let i = g.I.Installation.goes in
     let s = c.self.inside in
     let asked : seek_of (i.seen s.installation).users c.args.text.now ≡ Some c.in-Some.seek = search rules in
-    inr (c.in-Some.seek, subst (λ (old : Scene _). seek_of (i.seen old.world).users c.args.text.now
-    ≡ Some c.in-Some.seek) c.self.view_is asked)
+    inr (
+      c.in-Some.seek,
+      subst (λ (old : Scene _). seek_of (i.seen old.world).users c.args.text.now
+          ≡ Some c.in-Some.seek) c.self.view_is asked,
+    )
