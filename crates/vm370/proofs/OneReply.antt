@@ -82,7 +82,7 @@ said_same (events.Transfer user id to) (events.Tick other) e = absurd (cc)
 said_same (events.Transfer user id to) (events.Serve other place) e = absurd (cc)
 said_same (events.Transfer user id to) (events.Deck other deck) e = absurd (cc)
 said_same (events.Transfer user id to) (events.Transfer other number receiver) e =
-    (ap user_said e, (ap number_said e, ap receiver_said e))
+    (ap user_said e, ap number_said e, ap receiver_said e)
 
 -- ---- what is seen
 
