@@ -504,7 +504,7 @@ def test_trace(repository: str, work: str) -> None:
     )
     write(f"{work}/bad", "LINE BARE LOGON\nBAD\n")
     done = Done(repository, "trace370", "--bare", "64K", f"{work}/bad")
-    findings = "fault: script Line 2\ntrace370: line 2 is: 'BAD'\ntrace370: a line begins with RUN, LINE, TICK, SERVE, AUTO, DECK or LOAD, and not with BAD\n"
+    findings = "fault: script Line 2\ntrace370: line 2 is: 'BAD'\ntrace370: a line begins with RUN, LINE, TICK, SERVE, AUTO, DECK, TRANSFER or LOAD, and not with BAD\n"
     check(
         "a refused script is reported", done.status == 1 and done.err == findings, *done.findings()
     )
