@@ -2,21 +2,22 @@
 use Rattle.std.specs.Prelude.{ℕ, zero, suc, ◌≡◌, ◌<◌, Bool, true, false, List, [], ◌∷◌, length, slice_index_or, None}
 use Rattle.std.specs.Prelude.{OnOk, Result, Ok, Err}
 use Rattle.std.proofs.Common.{arith, subst, inl, inr, ◌∙◌, ◌⊎◌, ◌/◌}
-use Rattle.s370_channel.specs.declared.starting.Start.{Start}
-use Rattle.s370_channel.specs.declared.starting.Start.TheVariants as starts
+use Rattle.s370_channel.specs.declared.limits.Limits.{Limits}
+use Rattle.s370_channel.specs.declared.words.Caw.{Caw}
 use Rattle.s370_channel.specs.Guest.{guest_written}
 use Rattle.s370_channel.specs.Loading.{implied_word, loading, loading_limits}
 use Rattle.s370_channel.specs.Progress.{setting}
 use Rattle.s370_channel.specs.Runs.{begun, limited}
+use Rattle.s370_channel.specs.Start.{most_commands}
 use Rattle.s370_channel.specs.Supplied.{AllSuch, EachSuch, IsTouched}
 use Rattle.s370_walk.specs.declared.parts.Ending.{Ending}
 use Rattle.s370_store.specs.Memory.{Memory, memory_of}
 use Rattle.s370_walk.specs.Hardware.{Machine}
-use Rattle.s370_walk.specs.Walk.{Over, Reaches, Setting, State, live, start_spot}
+use Rattle.s370_walk.specs.Walk.{Fetching, Over, Reaches, Setting, State, live, start_spot}
 use Rattle.s370_walk.proofs.Viewing.{asked_back, ends_back, entered_viewed}
 use Rattle.s370_walk.specs.Viewed.{IsViewed, setting_for, viewed}
 use Rattle.channel_trial.specs.Pages.{IsIn, KeepsUntouched}
-use Rattle.channel_trial.specs.DryRun.{IsProgramTried, IsTried}
+use Rattle.channel_trial.specs.DryRun.{IsLoadingTried, IsProgramTried, IsTried}
 
 differ : {b : Bool} → b ≡ false → b ≡ true → ⊥
 differ away there = cc
@@ -63,6 +64,25 @@ tried_for h from t' ending old new before after flags units touched reaches each
       size = touched.size;
     }
 
+-- of the program with a start, as it was run
+module _ {T : Type 0} (machine : Machine T) (start : Caw) (t t' : T) (ending : Ending) (old new : Memory) where
+  pub tried_told : (at : ℕ) (l : Limits) (before after : ℕ → Bool) (flags : List Bool) (units : List (List ℕ))
+      → at ≡ start.address → l ≡ record { key = start.key; commands = most_commands; prefix = 0 }
+      → HasTouched old new before after flags units
+      → Reaches (live guest_written) (setting machine l) (Fetching (start_spot at) old t) (Over ending new t')
+      → EachSuch (IsTouched guest_written (setting machine l) (Fetching (start_spot at) old t)) units
+      → IsProgramTried machine start old t new.bytes flags
+  tried_told at l before after flags units at_is l_is touched reaches each =
+      let from : ℕ → State T = λ a. Fetching (start_spot a) old t in
+      let end : State T = Over ending new t' in
+      let R : ℕ → Type 0 = λ a. Reaches (live guest_written) (setting machine l) (from a) end in
+      let S : Limits → Type 0 = λ x. Reaches (live guest_written) (setting machine x) (from start.address) end in
+      let Q : ℕ → Type 0 = λ a. EachSuch (IsTouched guest_written (setting machine l) (from a)) units in
+      let O : Limits → Type 0 =
+      λ x. EachSuch (IsTouched guest_written (setting machine x) (from start.address)) units in
+      tried_for (limited machine start) (begun start old t) t' ending old new before after flags units touched
+      (subst S l_is (subst R at_is reaches)) (subst O l_is (subst Q at_is each))
+
 -- what was tried with what is seen of a device
 back_for : {D E : Type 0} (h : Setting D) (small : Machine E) (view : D → E) (from : State D) (m : Memory)
     (bytes : List ℕ) (touched : List Bool) → IsViewed h.machine small view
@@ -81,13 +101,18 @@ back_for h small view from m bytes touched same tried =
       size = tried.size;
     }
 
--- A dry run on the small machine is one on the whole machine.
-pub tried_back : {D E : Type 0} (machine : Machine D) (small : Machine E) (view : D → E) (start : Start) (m : Memory)
+-- A dry run of the small machine is one of the whole machine.
+pub tried_back : {D E : Type 0} (machine : Machine D) (small : Machine E) (view : D → E) (start : Caw) (m : Memory)
     (d : D) (bytes : List ℕ) (touched : List Bool) → IsViewed machine small view
     → IsProgramTried small start m (view d) bytes touched → IsProgramTried machine start m d bytes touched
-tried_back machine small view (starts.Program start) m d bytes touched same tried =
+tried_back machine small view start m d bytes touched same tried =
     back_for (limited machine start) small view (begun start m d) m bytes touched same tried
-tried_back {D} {E} machine small view starts.Loading m d bytes touched same tried =
+
+-- A dry run of a loading on the small machine is one on the whole machine.
+pub loaded_back : {D E : Type 0} (machine : Machine D) (small : Machine E) (view : D → E) (m : Memory) (d : D)
+    (bytes : List ℕ) (touched : List Bool) → IsViewed machine small view
+    → IsLoadingTried small m (view d) bytes touched → IsLoadingTried machine m d bytes touched
+loaded_back {D} {E} machine small view m d bytes touched same tried =
     let h : Setting D = setting machine loading_limits in
     let begins : loading small m (view d) ≡ viewed view (loading machine m d) =
     entered_viewed (live guest_written) h small view same (start_spot 0) implied_word None m d in
@@ -95,7 +120,7 @@ tried_back {D} {E} machine small view starts.Loading m d bytes touched same trie
     back_for h small view (loading machine m d) m bytes touched same (subst P begins tried)
 
 -- what is seen of a device was tried
-pub view_tried : {D E X : Type 0} (machine : Machine D) (small : Machine E) (view : D → E) (start : Start) (m : Memory)
+pub view_tried : {D E X : Type 0} (machine : Machine D) (small : Machine E) (view : D → E) (start : Caw) (m : Memory)
     (d : D) (t : E) (r : Result Unit X) (bytes : List ℕ) (touched : List Bool)
     → IsViewed machine small view → t ≡ view d → OnOk r (IsProgramTried small start m t bytes touched)
     → OnOk r (IsProgramTried machine start m d bytes touched)

@@ -2,9 +2,11 @@
 -- touches.
 use Rattle.std.specs.Prelude.{◌≡◌, ℕ, ◌/◌, Bool, true, false, List, length, slice_index}
 use Rattle.std.specs.Prelude.{slice_index_or}
-use Rattle.s370_channel.specs.declared.starting.Start.{Start}
+use Rattle.s370_channel.specs.declared.words.Caw.{Caw}
 use Rattle.s370_channel.specs.Guest.{guest_written}
-use Rattle.s370_channel.specs.Starts.{bounded, entrance}
+use Rattle.s370_channel.specs.Loading.{loading, loading_limits}
+use Rattle.s370_channel.specs.Progress.{setting}
+use Rattle.s370_channel.specs.Runs.{begun, limited}
 use Rattle.s370_channel.specs.Supplied.{IsTouched}
 use Rattle.s370_walk.specs.declared.parts.Ending.{Ending}
 use Rattle.s370_store.specs.Memory.{Memory}
@@ -26,7 +28,12 @@ pub record IsTried {D : Type 0} (h : Setting D) (from : State D) (m : Memory) (b
   pub size : length bytes ≡ length m.bytes
 
 -- the program with this start was tried
-abbrev pub IsProgramTried : {D : Type 0} → Machine D → Start → Memory → D → List ℕ → List Bool
+abbrev pub IsProgramTried : {D : Type 0} → Machine D → Caw → Memory → D → List ℕ → List Bool
     → Type 0
 IsProgramTried machine start m d bytes touched =
-    IsTried (bounded machine start) (entrance machine start m d) m bytes touched
+    IsTried (limited machine start) (begun start m d) m bytes touched
+
+-- the program of an initial program loading was tried
+abbrev pub IsLoadingTried : {D : Type 0} → Machine D → Memory → D → List ℕ → List Bool → Type 0
+IsLoadingTried machine m d bytes touched =
+    IsTried (setting machine loading_limits) (loading machine m d) m bytes touched

@@ -3,10 +3,10 @@
 //! that were not touched keep their bytes, and a dry run leaves what the program's walk will leave.
 //!
 //! ```
-//! use channel_trial::DryRun; // `cp_trial` has the storage, and an example of a dry run
-//! use s370_channel::{Caw, MOST_COMMANDS, Start};
-//! let start = Start::Program(Caw::from_word(0x1000_0800).ok_or("no address")?);
-//! assert_eq!(rt; start.limits().commands, MOST_COMMANDS);
+//! use channel_trial::limits_of; // `cp_trial` has the storage, and an example of a dry run
+//! use s370_channel::{Caw, MOST_COMMANDS};
+//! let start = Caw::from_word(0x1000_0800).ok_or("no address")?;
+//! assert_eq!(rt; limits_of(start).commands, MOST_COMMANDS);
 //! ```
 #![tactic(auto)]
 
@@ -16,7 +16,9 @@ ghost use Rattle.std.specs.Prelude.{◌≡◌, ◌⊎◌, ℕ, Bool, List, false
 ghost use Rattle.channel_trial.specs.Pages.{IsIn, KeepsUntouched};
 
 use s370_channel::AmpleSupply;
-pub use tried::{DryRun, a_view_is_tried_for_its_device, try_program};
+pub use tried::{
+    DryRun, TriedLoading, a_view_is_tried_for_its_device, limits_of, try_loading, try_program,
+};
 
 /// A storage for a dry run, which has room for each page and knows which were touched.
 pub trait TrialSupply: AmpleSupply {

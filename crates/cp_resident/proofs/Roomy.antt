@@ -88,14 +88,14 @@ module _ {D : Type 0} (machine : Machine D) (start : Caw) (d : D) (old new : Dat
   pub room_held : ArePagesHeld (lent_memory old) start.address new → HadRoom D machine old start d new
   room_held held = inr (inl held)
 
-  pub room_tried : (from : Dat) → from ≡ old → tried.HadRoomToRun D machine from start d new
+  pub room_tried : (from : Dat) → from ≡ old → tried.HadRoom D machine from start d new
       → HadRoom D machine old start d new
   room_tried from same had =
-      let cases : tried.HadRoomToRun D machine old start d new → HadRoom D machine old start d new = elim [
+      let cases : tried.HadRoom D machine old start d new → HadRoom D machine old start d new = elim [
         | inl is ↦ inl (ap (λ (e : Dat). (lent_pool e).supply) is)
         | inr placed ↦ inr (inr placed)
       ] in
-      cases (subst (λ (e : Dat). tried.HadRoomToRun D machine e start d new) same had)
+      cases (subst (λ (e : Dat). tried.HadRoom D machine e start d new) same had)
 
 -- ---- a disk's
 
@@ -110,7 +110,7 @@ module _ (start : Caw) (old new : Dat) where
   disk_held None none held = absurd (none refl)
   disk_held (Some disk) none held = room_held disk_machine start disk.unit old new held
 
-  pub disk_tried : (o : Option DiskAt) (from : Dat) → from ≡ old → DiskHadRoom tried.HadRoomToRun from start o new
+  pub disk_tried : (o : Option DiskAt) (from : Dat) → from ≡ old → DiskHadRoom tried.HadRoom from start o new
       → DiskHadRoom HadRoom old start o new
   disk_tried None from same had = had
   disk_tried (Some disk) from same had = room_tried disk_machine start disk.unit old new from same had

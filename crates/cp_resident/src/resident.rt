@@ -12,7 +12,7 @@ ghost use Rattle.cp_resident.specs.GuestChannels.{KeepsHung, disks_on, reuse_of,
 ghost use Rattle.cp_resident.specs.Reuse.{KeepsCopy, KeepsKnown};
 
 use crate::reuse::Reuse;
-use channel_trial::DryRun;
+use channel_trial::{DryRun, TriedLoading};
 use cp_ccw::{CachedProgram, cache_program, know, run_kept};
 use cp_dat::Dat;
 use cp_needs::WordAt;
@@ -21,7 +21,7 @@ use cp_trial::{
 };
 use cp_volumes::{SharedDisk, UserDisks, Volumes};
 use machine_channels::{Channels, Disks, UnitRecord};
-use s370_channel::{Caw, ChannelError, Limits, MOST_COMMANDS, Start};
+use s370_channel::{Caw, ChannelError, Limits, MOST_COMMANDS};
 use s370_store::{Page, UnitSupply};
 use s370_walk::{Device, Ending};
 use std::alloc::Global;
@@ -191,7 +191,7 @@ impl<'a> Channels<Dat<'a>> for GuestChannels {
             }
             Ok(LockedProgram::SelfModifying) => {
                 self.reuse.put_unit(unit, None);
-                reported(run_open(self.alloc, storage, Start::Program(start), device))
+                reported(run_open(self.alloc, storage, start, device))
             }
             Err(error) => {
                 storage.let_go();
@@ -232,7 +232,7 @@ impl<'a> Channels<Dat<'a>> for GuestChannels {
 
     /// Makes a dry run of the loading program of a device that is no disk, and runs it if there is
     /// room for its pages; what is cached stays.
-    fn load<D: DryRun>(
+    fn load<D: TriedLoading>(
         &mut self,
         storage: &mut Dat<'a>,
         device: &mut D,

@@ -8,8 +8,8 @@ ghost use Rattle.cp_spool.specs.Reader.{fed_by, part_new};
 
 use crate::progress::ReaderProgress;
 use crate::queues::Queues;
-use channel_trial::{DryRun, TrialSupply, try_program};
-use s370_channel::Start;
+use channel_trial::{DryRun, TrialSupply, TriedLoading, try_loading, try_program};
+use s370_channel::Caw;
 use s370_walk::{Answer, Device, Flags, Order, UnitStatus};
 use std::alloc::AllocError;
 use std::marker::Model;
@@ -196,8 +196,16 @@ impl<'a> Device for FedReader<'a> {
 impl<'a> DryRun for FedReader<'a> {
     /// Makes a dry run of the program with this start on a copy of a storage, which it changes; the
     /// reader and the queue stay.
-    fn dry_run<S: TrialSupply>(&self, copy: &mut S, start: Start) -> Result<(), AllocError> {
+    fn dry_run<S: TrialSupply>(&self, copy: &mut S, start: Caw) -> Result<(), AllocError> {
         try_program(copy, start, &mut self.trial())
+    }
+}
+
+impl<'a> TriedLoading for FedReader<'a> {
+    /// Makes a dry run of the program of an initial program loading on a copy of a storage, which
+    /// it changes; the reader and the queue stay.
+    fn try_load<S: TrialSupply>(&self, copy: &mut S) -> Result<(), AllocError> {
+        try_loading(copy, &mut self.trial())
     }
 }
 

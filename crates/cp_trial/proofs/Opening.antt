@@ -4,14 +4,14 @@ use Rattle.std.specs.Result.{IsErrAnd}
 use Rattle.cp_trial.specs.declared.DryRunError.{DryRunError}
 use Rattle.cp_trial.specs.declared.DryRunError.TheVariants as errors
 use Rattle.s370_channel.specs.Guest.{guest_written}
-use Rattle.s370_channel.specs.declared.starting.Start.TheVariants as starts
-use Rattle.s370_channel.specs.Starts.{bounded, entrance}
+use Rattle.s370_channel.specs.Loading.{loading, loading_limits}
+use Rattle.s370_channel.specs.Progress.{setting}
 use Rattle.s370_channel.specs.Supplied.{IsTouched}
 use Rattle.s370_store.specs.Memory.{Memory}
 use Rattle.s370_walk.specs.Hardware.{Machine}
 use Rattle.cp_trial.specs.declared.storage.TouchedPages.{TouchedPages}
 use Rattle.cp_trial.specs.Trial.{touched_flags, tried_bytes}
-use Rattle.channel_trial.specs.DryRun.{IsProgramTried}
+use Rattle.channel_trial.specs.DryRun.{IsLoadingTried}
 use Rattle.cp_dat.specs.declared.dat.Dat.{Dat}
 use Rattle.cp_dat.specs.Copies.{StandAll, is_wanted}
 use Rattle.cp_dat.specs.Lent.{lent_memory}
@@ -20,23 +20,22 @@ use Rattle.cp_trial.specs.DryRun.{IsPlaced, LoadTouches}
 -- A dry run of a loading flags the pages that the loading touches.
 pub loads_flagged : {D : Type 0} (machine : Machine D) (old between : Dat) (d : D) (tried : TouchedPages)
     → lent_memory between ≡ lent_memory old
-    → IsProgramTried machine starts.Loading (lent_memory between) d (tried_bytes between tried) (touched_flags tried)
+    → IsLoadingTried machine (lent_memory between) d (tried_bytes between tried) (touched_flags tried)
     → (page : ℕ) → is_wanted (touched_flags tried) page → LoadTouches machine (lent_memory old) d page
 loads_flagged machine old between d tried same is page it =
-    inr (subst (λ (m : Memory). IsTouched guest_written (bounded machine starts.Loading) (entrance machine starts.Loading m d) page)
+    inr (subst (λ (m : Memory). IsTouched guest_written (setting machine loading_limits) (loading machine m d) page)
     same (is.touches page it))
 
 -- The pages of a loading are placed before it runs.
 pub placed_before : {D : Type 0} (machine : Machine D) (old between new : Dat) (d : D) (tried : TouchedPages)
     → lent_memory between ≡ lent_memory old
-    → IsProgramTried machine starts.Loading (lent_memory between) d (tried_bytes between tried) (touched_flags tried)
+    → IsLoadingTried machine (lent_memory between) d (tried_bytes between tried) (touched_flags tried)
     → StandAll new (touched_flags tried)
-    → IsPlaced (bounded machine starts.Loading) (entrance machine starts.Loading (lent_memory old) d) (lent_memory old) new
+    → IsPlaced (setting machine loading_limits) (loading machine (lent_memory old) d) (lent_memory old) new
 placed_before machine old between new d tried same is stand = record {
   bytes = tried_bytes between tried;
   flags = touched_flags tried;
-  tried = subst (λ (m : Memory). IsProgramTried machine starts.Loading m d (tried_bytes between tried)
-      (touched_flags tried)) same is;
+  tried = subst (λ (m : Memory). IsLoadingTried machine m d (tried_bytes between tried) (touched_flags tried)) same is;
   stand = stand;
 }
 

@@ -1,10 +1,10 @@
 -- What holds of a program that was tried and then runs, or for which there is no room.
 use Rattle.std.specs.Prelude.{ℕ, ◌*◌, ◌<◌, ◌≡◌, ◌⊎◌, Bool, List, length, true}
 use Rattle.s370_channel.specs.declared.words.Caw.{Caw}
-use Rattle.s370_channel.specs.declared.starting.Start.{Start}
-use Rattle.s370_channel.specs.declared.starting.Start.TheVariants as starts
 use Rattle.s370_channel.specs.Guest.{guest_written}
-use Rattle.s370_channel.specs.Starts.{bounded, entrance}
+use Rattle.s370_channel.specs.Loading.{loading, loading_limits}
+use Rattle.s370_channel.specs.Progress.{setting}
+use Rattle.s370_channel.specs.Runs.{begun, limited}
 use Rattle.s370_channel.specs.Supplied.{IsTouched}
 use Rattle.s370_walk.specs.declared.parts.Ending.{Ending}
 use Rattle.s370_store.specs.Memory.{Memory}
@@ -43,18 +43,16 @@ pub record HasFirst (old new : Dat) : Type 0 where
   pub there : is_lent_page new 0 ≡ true
 
 -- nothing has happened, or each page that the program touches has its place
-abbrev pub HadRoom : (D : Type 0) → Machine D → Dat → Start → D → Dat → Type 0
+abbrev pub HadRoom : (D : Type 0) → Machine D → Dat → Caw → D → Dat → Type 0
 HadRoom D machine old start d new =
-    (new ≡ old) ⊎ IsPlaced (bounded machine start) (entrance machine start (lent_memory old) d)
+    (new ≡ old) ⊎ IsPlaced (limited machine start) (begun start (lent_memory old) d)
     (lent_memory old) new
 
--- the same of the program that begins with an address word
-abbrev pub HadRoomToRun : (D : Type 0) → Machine D → Dat → Caw → D → Dat → Type 0
-HadRoomToRun D machine old start d new = HadRoom D machine old (starts.Program start) d new
-
--- and of a loading
+-- the same of a loading
 abbrev pub HadRoomToLoad : (D : Type 0) → Machine D → Dat → D → Dat → Type 0
-HadRoomToLoad D machine old d new = HadRoom D machine old starts.Loading d new
+HadRoomToLoad D machine old d new =
+    (new ≡ old) ⊎ IsPlaced (setting machine loading_limits) (loading machine (lent_memory old) d)
+    (lent_memory old) new
 
 -- and of one before which the page of the PSW comes
 abbrev pub HadRoomAfterFirst : (D : Type 0) → Machine D → Dat → D → Dat → Type 0
@@ -63,5 +61,5 @@ HadRoomAfterFirst D machine old d new = HasFirst old new ⊎ HadRoomToLoad D mac
 -- the pages that a loading needs: those that its walk touches, and that of the PSW
 abbrev pub LoadTouches : {D : Type 0} → Machine D → Memory → D → ℕ → Type 0
 LoadTouches machine m part page =
-    (page ≡ 0) ⊎ IsTouched guest_written (bounded machine starts.Loading)
-    (entrance machine starts.Loading m part) page
+    (page ≡ 0) ⊎ IsTouched guest_written (setting machine loading_limits) (loading machine m part)
+    page

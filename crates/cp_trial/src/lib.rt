@@ -15,7 +15,7 @@
 //! use cp_frames::Frames;
 //! use cp_trial::{run_tried, try_device};
 //! use user_names::UserNo;
-//! use s370_channel::{Caw, Start};
+//! use s370_channel::Caw;
 //! use s370_num::StorageKey;
 //! use s370_store::{Page, store_doubleword};
 //! use unit_record::Printer;
@@ -25,9 +25,8 @@
 //! let mut storage = Dat::new(&mut frames, &mut keys, UserNo::new(0));
 //! storage.bring(Page(0))?;
 //! store_doubleword(&mut storage, 0x800, 0x0900_2000_0000_0005); // write five bytes of page 2
-//! let start = Start::Program(Caw::from_word(0x800).ok_or("no address")?);
-//! let mut printer = Printer::new(alloc);
-//! let tried = try_device(alloc, &storage, &start, &printer)?;
+//! let (start, mut printer) = (Caw::from_word(0x800).ok_or("no address")?, Printer::new(alloc));
+//! let tried = try_device(alloc, &storage, start, &printer)?;
 //! assert_eq!(rt; tried.touched(), [true, false, true].as_slice());
 //! assert!(rt; printer.entries().is_empty() && storage.frame_of(Page(2)).is_none());
 //! run_tried(alloc, &mut storage, start, &mut printer, &tried)?;
@@ -68,22 +67,25 @@ mod storage;
 
 ghost use Rattle.std.specs.Prelude.{◌≡◌, ℕ, Bool, false, Err, IfOk, OnErr};
 ghost use Rattle.s370_channel.specs.Guest.{guest_written};
-ghost use Rattle.s370_channel.specs.Starts.{bounded, entrance};
+ghost use Rattle.s370_channel.specs.Loading.{loading, loading_limits};
+ghost use Rattle.s370_channel.specs.Progress.{setting};
+ghost use Rattle.s370_channel.specs.Reading.{as_reached};
+ghost use Rattle.s370_channel.specs.Runs.{Walks, begun, limited};
 ghost use Rattle.s370_walk.specs.declared.parts.Order.{Order};
 ghost use Rattle.s370_walk.specs.Walk.{Over, Reaches, live};
 ghost use Rattle.cp_dat.specs.Copies.{CameOnly, StandAll, is_wanted};
 ghost use Rattle.cp_dat.specs.Lent.{lent_pool, lent_memory};
 ghost use Rattle.cp_dat.specs.Supplied.{IsBetweenUnits};
 ghost use Rattle.cp_trial.specs.Trial.{touched_flags, tried_bytes};
-ghost use Rattle.channel_trial.specs.DryRun.{IsProgramTried};
+ghost use Rattle.channel_trial.specs.DryRun.{IsLoadingTried, IsProgramTried};
 ghost use Rattle.cp_trial.specs.DryRun.{EndsSomehow, LacksSuch};
 ghost use Rattle.cp_trial.specs.declared.DryRunError.TheVariants as errors;
 
-use channel_trial::DryRun;
+use channel_trial::{DryRun, TriedLoading, limits_of};
 use cp_dat::Dat;
 pub use held::{LockedProgram, lock_pages};
 pub use open::{fetch_again, fetch_first, load_open, run_open};
-use s370_channel::{Start, run_supplied};
+use s370_channel::{Caw, load_supplied, run_supplied};
 use s370_store::FramesOut;
 use s370_walk::{Device, Ending};
 use std::alloc::{AllocError, Global};
@@ -108,14 +110,14 @@ pub enum DryRunError {
 pub fn try_program<T: Device>(
     alloc: Global,
     storage: &Dat<'_>,
-    start: &Start,
+    start: Caw,
     trial: &mut T,
 ) -> Result<TouchedPages, AllocError>
-    ensures { IfOk result (λ tried. IsProgramTried T.machine start.now
+    ensures { IfOk result (λ tried. IsProgramTried T.machine start
         (lent_memory storage.now) trial.old (tried_bytes storage.now tried) (touched_flags tried)) }
 {
     let mut copy = TrialStorage::new(alloc, storage)?;
-    channel_trial::try_program(&mut copy, *start, trial)?;
+    channel_trial::try_program(&mut copy, start, trial)?;
     Ok(copy.into_pages())
 }
 
@@ -128,15 +130,15 @@ pub fn try_program<T: Device>(
 pub fn try_device<D: DryRun>(
     alloc: Global,
     storage: &Dat<'_>,
-    start: &Start,
+    start: Caw,
     device: &D,
 ) -> Result<TouchedPages, AllocError>
-    ensures { IfOk result (λ tried. IsProgramTried D.Device.machine start.now
+    ensures { IfOk result (λ tried. IsProgramTried D.Device.machine start
         (lent_memory storage.now) device.now (tried_bytes storage.now tried)
         (touched_flags tried)) }
 {
     let mut copy = TrialStorage::new(alloc, storage)?;
-    device.dry_run(&mut copy, *start)?;
+    device.dry_run(&mut copy, start)?;
     Ok(copy.into_pages())
 }
 
@@ -149,7 +151,7 @@ pub fn try_device<D: DryRun>(
 pub fn run_tried<D: Device>(
     alloc: Global,
     storage: &mut Dat<'_>,
-    start: Start,
+    start: Caw,
     device: &mut D,
     tried: &TouchedPages,
 ) -> Result<Ending, DryRunError>
@@ -157,9 +159,8 @@ pub fn run_tried<D: Device>(
         device.old (tried_bytes storage.old tried.now) (touched_flags tried.now) }
     requires between { IsBetweenUnits (lent_pool storage.old).supply }
     ensures walk { IfOk result
-        (λ ending. Reaches (live guest_written) (bounded D.machine start)
-        (entrance D.machine start (lent_memory storage.old) device.old)
-        (Over ending (lent_memory storage.new) device.new)) }
+        (λ ending. Walks as_reached D.machine start (lent_memory storage.old) device.old ending
+        (lent_memory storage.new) device.new) }
     ensures unchanged_without_frames { result ≡ Err errors.FramesOut
         → (lent_memory storage.new ≡ lent_memory storage.old)
         × (device.new ≡ device.old) }
@@ -188,16 +189,116 @@ pub fn run_tried<D: Device>(
 fn run_on_copy<D: Device>(
     alloc: Global,
     storage: &Dat<'_>,
-    start: Start,
+    start: Caw,
     device: &mut D,
 ) -> Result<Ending, AllocError>
     ensures spared { ((d : D) (o : Order) → D.needs_memory d o ≡ false)
         → OnErr result (device.new ≡ device.old) }
-    ensures ends { IfOk result (λ ending. EndsSomehow (bounded D.machine start)
-        (entrance D.machine start (lent_memory storage.now) device.old) ending device.new) }
+    ensures ends { IfOk result (λ ending. EndsSomehow (limited D.machine start)
+        (begun start (lent_memory storage.now) device.old) ending device.new) }
 {
     let mut copy = TrialStorage::new(alloc, storage)?;
-    match run_supplied(&mut copy, start, device) {
+    match run_supplied(&mut copy, start.address.get(), &limits_of(start), device) {
+        Ok(ending) => Ok(ending),
+        Err(_) => Err(AllocError),
+    }
+}
+
+/// Makes a dry run of the program of an initial program loading, with the device `trial`, which
+/// changes; returns the pages that it touched. The storage stays.
+///
+/// # Errors
+///
+/// `AllocError` if memory is refused; what was passed may have changed in part.
+pub fn try_loading<T: Device>(
+    alloc: Global,
+    storage: &Dat<'_>,
+    trial: &mut T,
+) -> Result<TouchedPages, AllocError>
+    ensures { IfOk result (λ tried. IsLoadingTried T.machine
+        (lent_memory storage.now) trial.old (tried_bytes storage.now tried) (touched_flags tried)) }
+{
+    let mut copy = TrialStorage::new(alloc, storage)?;
+    channel_trial::try_loading(&mut copy, trial)?;
+    Ok(copy.into_pages())
+}
+
+/// Makes a dry run of the program of an initial program loading, with a copy of the device, and
+/// returns the pages that it touched. The storage stays.
+///
+/// # Errors
+///
+/// `AllocError` if memory is refused.
+pub fn try_load<D: TriedLoading>(
+    alloc: Global,
+    storage: &Dat<'_>,
+    device: &D,
+) -> Result<TouchedPages, AllocError>
+    ensures { IfOk result (λ tried. IsLoadingTried D.Device.machine
+        (lent_memory storage.now) device.now (tried_bytes storage.now tried)
+        (touched_flags tried)) }
+{
+    let mut copy = TrialStorage::new(alloc, storage)?;
+    device.try_load(&mut copy)?;
+    Ok(copy.into_pages())
+}
+
+/// Runs the program of an initial program loading after its dry run, as a whole if there is room
+/// for the pages that it touches, else not at all.
+///
+/// # Errors
+///
+/// A `DryRunError`: refused memory, or no room for a page that is needed.
+pub fn load_tried<D: Device>(
+    alloc: Global,
+    storage: &mut Dat<'_>,
+    device: &mut D,
+    tried: &TouchedPages,
+) -> Result<Ending, DryRunError>
+    requires tried { IsLoadingTried D.machine (lent_memory storage.old)
+        device.old (tried_bytes storage.old tried.now) (touched_flags tried.now) }
+    requires between { IsBetweenUnits (lent_pool storage.old).supply }
+    ensures walk { IfOk result
+        (λ ending. Reaches (live guest_written) (setting D.machine loading_limits)
+        (loading D.machine (lent_memory storage.old) device.old)
+        (Over ending (lent_memory storage.new) device.new)) }
+    ensures unchanged_without_frames { result ≡ Err errors.FramesOut
+        → (lent_memory storage.new ≡ lent_memory storage.old)
+        × (device.new ≡ device.old) }
+    ensures spared { ((d : D) (o : Order) → D.needs_memory d o ≡ false) → result ≡ Err errors.Memory
+        → device.new ≡ device.old }
+    ensures lacking { result ≡ Err errors.FramesOut
+        → LacksSuch (is_wanted (touched_flags tried.now)) storage.new }
+    ensures roomy { result ≡ Err errors.Memory → StandAll storage.new (touched_flags tried.now) }
+    ensures paged_in { CameOnly storage.old (is_wanted (touched_flags tried.now)) 2 storage.new }
+    ensures between { IsBetweenUnits (lent_pool storage.new).supply }
+{
+    match storage.page_in_wanted(tried.touched()) {
+        Ok(()) => {}
+        Err(FramesOut) => return Err(DryRunError::FramesOut),
+    }
+    let ran = load_on_copy(alloc, storage, device);
+    let Ok(ending) = ran else {
+        return Err(DryRunError::Memory);
+    };
+    storage.put_back(tried.bytes(), tried.touched());
+    Ok(ending)
+}
+
+/// Runs the program of an initial program loading on its device, but on copies of pages, which are
+/// dropped, and returns how it ended.
+fn load_on_copy<D: Device>(
+    alloc: Global,
+    storage: &Dat<'_>,
+    device: &mut D,
+) -> Result<Ending, AllocError>
+    ensures spared { ((d : D) (o : Order) → D.needs_memory d o ≡ false)
+        → OnErr result (device.new ≡ device.old) }
+    ensures ends { IfOk result (λ ending. EndsSomehow (setting D.machine loading_limits)
+        (loading D.machine (lent_memory storage.now) device.old) ending device.new) }
+{
+    let mut copy = TrialStorage::new(alloc, storage)?;
+    match load_supplied(&mut copy, device) {
         Ok(ending) => Ok(ending),
         Err(_) => Err(AllocError),
     }

@@ -3,7 +3,8 @@ ghost use Rattle.std.specs.Prelude.{◌≡◌, ◌⊎◌, ◌<◌, [], Err, IfOk
 ghost use Rattle.s370_channel.specs.Guest.{guest_written};
 ghost use Rattle.s370_channel.specs.Loading.{loading, loading_limits};
 ghost use Rattle.s370_channel.specs.Progress.{setting};
-ghost use Rattle.s370_channel.specs.Starts.{bounded, entrance};
+ghost use Rattle.s370_channel.specs.Reading.{as_reached};
+ghost use Rattle.s370_channel.specs.Runs.{Walks, begun, limited};
 ghost use Rattle.s370_channel.specs.Supplied.{IsTouched};
 ghost use Rattle.s370_walk.specs.Walk.{Over, Reaches, live};
 ghost use Rattle.cp_dat.specs.Copies.{CameOnly};
@@ -12,10 +13,10 @@ ghost use Rattle.cp_dat.specs.Supplied.{IsBetweenUnits, Stands};
 ghost use Rattle.cp_trial.specs.DryRun.{HadRoom, HadRoomAfterFirst, LacksSuch, LoadTouches};
 ghost use Rattle.cp_trial.specs.declared.DryRunError.TheVariants as errors;
 
-use crate::{DryRunError, run_tried, try_device};
-use channel_trial::DryRun;
+use crate::{DryRunError, load_tried, run_tried, try_device, try_load};
+use channel_trial::{DryRun, TriedLoading};
 use cp_dat::Dat;
-use s370_channel::Start;
+use s370_channel::Caw;
 use s370_store::{FramesOut, Page, Storage};
 use s370_walk::Ending;
 use std::alloc::Global;
@@ -29,28 +30,30 @@ use std::alloc::Global;
 pub fn run_open<D: DryRun>(
     alloc: Global,
     storage: &mut Dat<'_>,
-    start: Start,
+    start: Caw,
     device: &mut D,
 ) -> Result<Ending, DryRunError>
     requires { IsBetweenUnits (lent_pool storage.old).supply }
-    ensures walk { IfOk result
-        (λ ending. Reaches (live guest_written) (bounded D.Device.machine start)
-        (entrance D.Device.machine start (lent_memory storage.old) device.old)
-        (Over ending (lent_memory storage.new) device.new)) }
+    ensures walk { IfOk result (λ ending. Walks as_reached D.Device.machine start
+        (lent_memory storage.old) device.old ending (lent_memory storage.new) device.new) }
     ensures unchanged_without_frames { result ≡ Err errors.FramesOut
         → (lent_memory storage.new ≡ lent_memory storage.old)
         × (device.new ≡ device.old) }
     ensures lacking { result ≡ Err errors.FramesOut → LacksSuch (IsTouched guest_written
-        (bounded D.Device.machine start)
-        (entrance D.Device.machine start (lent_memory storage.old) device.old)) storage.new }
+        (limited D.Device.machine start) (begun start (lent_memory storage.old) device.old))
+        storage.new }
     ensures roomy { result ≡ Err errors.Memory
         → HadRoom _ D.Device.machine storage.old start device.old storage.new }
     ensures paged_in { CameOnly storage.old
-        (IsTouched guest_written (bounded D.Device.machine start)
-        (entrance D.Device.machine start (lent_memory storage.old) device.old)) 2 storage.new }
+        (IsTouched guest_written (limited D.Device.machine start)
+        (begun start (lent_memory storage.old) device.old)) 2 storage.new }
     ensures between { IsBetweenUnits (lent_pool storage.new).supply }
 {
-    match try_device(alloc, storage, &start, device) {
+    let again = Caw {
+        key: start.key,
+        address: start.address,
+    };
+    match try_device(alloc, storage, again, device) {
         Ok(tried) => run_tried(alloc, storage, start, device, &tried),
         Err(_) => Err(DryRunError::Memory),
     }
@@ -62,7 +65,7 @@ pub fn run_open<D: DryRun>(
 /// # Errors
 ///
 /// A `DryRunError`: refused memory, or no room for a page that is needed.
-pub fn load_open<D: DryRun>(
+pub fn load_open<D: TriedLoading>(
     alloc: Global,
     storage: &mut Dat<'_>,
     device: &mut D,
@@ -85,11 +88,11 @@ pub fn load_open<D: DryRun>(
     ensures between { IsBetweenUnits (lent_pool storage.new).supply }
 {
     fetch_first(storage)?;
-    let tried = match try_device(alloc, storage, &Start::Loading, device) {
+    let tried = match try_load(alloc, storage, device) {
         Ok(tried) => tried,
         Err(_) => return Err(DryRunError::Memory),
     };
-    let ending = run_tried(alloc, storage, Start::Loading, device, &tried)?;
+    let ending = load_tried(alloc, storage, device, &tried)?;
     fetch_again(storage);
     Ok(ending)
 }

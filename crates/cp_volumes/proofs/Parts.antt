@@ -4,16 +4,12 @@ use Rattle.std.proofs.Common.{subst, sym}
 use Rattle.s370_walk.specs.declared.parts.Ending.{Ending}
 use Rattle.s370_store.specs.Memory.{Memory}
 use Rattle.s370_walk.specs.Walk.{Setting, State, Over, Reaches, live, start_spot}
-use Rattle.s370_walk.specs.Hardware.{Machine}
-use Rattle.s370_channel.specs.declared.starting.Start.{Start}
-use Rattle.s370_channel.specs.declared.starting.Start.TheVariants as starts
 use Rattle.s370_channel.specs.declared.words.Caw.{Caw}
 use Rattle.s370_channel.specs.Guest.{guest_written}
 use Rattle.s370_channel.specs.Loading.{loading, loading_limits, implied_word}
 use Rattle.s370_channel.specs.Progress.{setting}
 use Rattle.s370_channel.specs.Reading.{as_reached}
 use Rattle.s370_channel.specs.Runs.{Walks, limited}
-use Rattle.s370_channel.specs.Starts.{bounded, entrance}
 use Rattle.ckd_volume.specs.Unit.{disk_machine}
 use Rattle.machine_channels.specs.Channels.{WalksLoading}
 use Rattle.cp_minidisk.specs.Kept.{Keeps, device_in}
@@ -80,10 +76,6 @@ kept_volume p q i = record {
 
 -- ---- a program
 
-abbrev WalksFrom : {D : Type 0} → Machine D → Start → Memory → D → Ending → Memory → D → Type 0
-WalksFrom machine start m p end n q =
-    Reaches (live guest_written) (bounded machine start) (entrance machine start m p) (Over end n q)
-
 abbrev on_part : Caw → Setting Part
 on_part start = limited part_machine start
 
@@ -139,31 +131,36 @@ part_viewed = record {
   finished = λ p. refl;
 }
 
--- A program that ends on a minidisk ends on its disk.
-pub from_walks : (start : Start) (m n : Memory) (p q : Part) (end : Ending)
-    → WalksFrom part_machine start m p end n q → WalksFrom disk_machine start m p.disk end n q.disk
-from_walks (starts.Program start) m n p q end to = program_walks start m n p q end to
-from_walks starts.Loading m n p q end to = loading_walks m n p q end to
-
--- A program leaves the rest of the volume as it is.
-pub from_keeps : (start : Start) (m n : Memory) (p q : Part) (end : Ending)
-    → WalksFrom part_machine start m p end n q → KeepsVolume p q
-from_keeps (starts.Program start) m n p q end to = program_keeps start m n p q end to
-from_keeps starts.Loading m n p q end to = loading_keeps m n p q end to
-
 -- A dry run that ends on a minidisk ends on its disk.
-pub walks_ok : (start : Start) (m n : Memory) (p q : Part) (r : Result Ending DryRunError)
-    → IfOk r (λ end. WalksFrom part_machine start m p end n q)
-    → IfOk r (λ end. WalksFrom disk_machine start m p.disk end n q.disk)
-walks_ok start m n p q (Ok end) walk = from_walks start m n p q end walk
+pub walks_ok : (start : Caw) (m n : Memory) (p q : Part) (r : Result Ending DryRunError)
+    → IfOk r (λ end. Walks as_reached part_machine start m p end n q)
+    → IfOk r (λ end. Walks as_reached disk_machine start m p.disk end n q.disk)
+walks_ok start m n p q (Ok end) walk = program_walks start m n p q end walk
 walks_ok start m n p q (Err error) walk = tt
 
 -- A dry run leaves the rest of the volume as it is, however it ends.
-pub keeps_ok : (start : Start) (m n : Memory) (p q : Part) (r : Result Ending DryRunError)
-    → IfOk r (λ end. WalksFrom part_machine start m p end n q) → (r ≡ Err tries.Memory → q ≡ p)
+pub keeps_ok : (start : Caw) (m n : Memory) (p q : Part) (r : Result Ending DryRunError)
+    → IfOk r (λ end. Walks as_reached part_machine start m p end n q) → (r ≡ Err tries.Memory → q ≡ p)
     → (r ≡ Err tries.FramesOut → q ≡ p) → KeepsVolume p q
-keeps_ok start m n p q (Ok end) walk memory out = from_keeps start m n p q end walk
+keeps_ok start m n p q (Ok end) walk memory out = program_keeps start m n p q end walk
 keeps_ok start m n p q (Err tries.Memory) walk memory out =
     subst (λ (x : Part). KeepsVolume p x) (sym (memory refl)) (kept_same p)
 keeps_ok start m n p q (Err tries.FramesOut) walk memory out =
+    subst (λ (x : Part). KeepsVolume p x) (sym (out refl)) (kept_same p)
+
+-- A loading that ends on a minidisk ends on its disk.
+pub loads_ok : (m n : Memory) (p q : Part) (r : Result Ending DryRunError)
+    → IfOk r (λ end. WalksLoading part_machine m p end n q)
+    → IfOk r (λ end. WalksLoading disk_machine m p.disk end n q.disk)
+loads_ok m n p q (Ok end) walk = loading_walks m n p q end walk
+loads_ok m n p q (Err error) walk = tt
+
+-- A loading leaves the rest of the volume as it is, however it ends.
+pub load_keeps_ok : (m n : Memory) (p q : Part) (r : Result Ending DryRunError)
+    → IfOk r (λ end. WalksLoading part_machine m p end n q) → (r ≡ Err tries.Memory → q ≡ p)
+    → (r ≡ Err tries.FramesOut → q ≡ p) → KeepsVolume p q
+load_keeps_ok m n p q (Ok end) walk memory out = loading_keeps m n p q end walk
+load_keeps_ok m n p q (Err tries.Memory) walk memory out =
+    subst (λ (x : Part). KeepsVolume p x) (sym (memory refl)) (kept_same p)
+load_keeps_ok m n p q (Err tries.FramesOut) walk memory out =
     subst (λ (x : Part). KeepsVolume p x) (sym (out refl)) (kept_same p)

@@ -1,18 +1,13 @@
 -- A program runs on a minidisk that is mounted on the unit of its volume.
 use Rattle.std.specs.Prelude.{ℕ, ◌≡◌, Option, Some, None}
 use Rattle.s370_store.specs.Memory.{Memory}
-use Rattle.s370_walk.specs.declared.parts.Ending.{Ending}
-use Rattle.s370_walk.specs.Walk.{live}
-use Rattle.s370_channel.specs.declared.starting.Start.{Start}
 use Rattle.s370_channel.specs.declared.words.Caw.{Caw}
 use Rattle.s370_channel.specs.Guest.{guest_written}
 use Rattle.s370_channel.specs.Loading.{loading, loading_limits}
 use Rattle.s370_channel.specs.Progress.{setting}
 use Rattle.s370_channel.specs.Runs.{begun, limited}
-use Rattle.s370_channel.specs.Starts.{bounded, entrance}
 use Rattle.s370_channel.specs.Supplied.{IsTouched}
 use Rattle.ckd_volume.specs.Unit.{disk_machine}
-use Rattle.machine_channels.specs.Channels.{RestsThen}
 use Rattle.machine_channels.specs.Disks.{DiskAt}
 use Rattle.cp_minidisk.specs.Part.{Part, extent_of, unit_of}
 use Rattle.cp_minidisk.specs.PartLaws.{HasSameOtherDisks}
@@ -24,12 +19,6 @@ pub record KeepsVolume (old new : Part) : Type 0 where
   pub extent : extent_of new ≡ extent_of old
   pub read_only : IsReadOnly old.disk.cylinders old.disk
       → (unit_of new).cylinders ≡ (unit_of old).cylinders
-
--- the walk of a program over a disk, which is at rest after it
-abbrev pub RestsFrom : Start → Memory → DiskAt → Ending → Memory → DiskAt → Type 0
-RestsFrom start old disk ending new left =
-    RestsThen (live guest_written) (bounded disk_machine start)
-    (entrance disk_machine start old disk.unit) disk ending new left
 
 -- which pages the program with this start touches, of a disk as its user sees it
 abbrev pub DiskTouches : Caw → Memory → Option DiskAt → ℕ → Type 0

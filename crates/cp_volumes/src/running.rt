@@ -1,17 +1,15 @@
 //! Programs of a minidisk that is mounted on the unit of its volume: one that was tried runs to its
 //! end or not at all, one whose pages are held to its end.
 ghost use Rattle.std.specs.Prelude.{◌≡◌, IfOk, OnErr, Err};
-ghost use Rattle.s370_walk.specs.Walk.{Over, Reaches, live};
-ghost use Rattle.s370_channel.specs.Guest.{guest_written};
 ghost use Rattle.s370_channel.specs.Reading.{as_reached};
 ghost use Rattle.s370_channel.specs.Runs.{Walks};
-ghost use Rattle.s370_channel.specs.Starts.{bounded, entrance};
 ghost use Rattle.ckd_volume.specs.Unit.{disk_machine};
+ghost use Rattle.machine_channels.specs.Channels.{WalksLoading};
 ghost use Rattle.cp_dat.specs.Copies.{CameOnly, StandAll, is_wanted};
 ghost use Rattle.cp_dat.specs.Lent.{lent_pool, lent_memory};
 ghost use Rattle.cp_dat.specs.Supplied.{IsBetweenUnits};
 ghost use Rattle.cp_trial.specs.Trial.{touched_flags, tried_bytes};
-ghost use Rattle.channel_trial.specs.DryRun.{IsProgramTried};
+ghost use Rattle.channel_trial.specs.DryRun.{IsLoadingTried, IsProgramTried};
 ghost use Rattle.cp_trial.specs.DryRun.{LacksSuch};
 ghost use Rattle.cp_trial.specs.declared.DryRunError.TheVariants as errors;
 ghost use Rattle.cp_needs.specs.Words.{IsFixedStill};
@@ -20,8 +18,8 @@ ghost use Rattle.cp_volumes.specs.Running.{KeepsVolume};
 use cp_dat::Dat;
 use cp_minidisk::Mounted;
 use cp_needs::run_held;
-use cp_trial::{DryRunError, TouchedPages, run_tried};
-use s370_channel::{Caw, Limits, MOST_COMMANDS, Start};
+use cp_trial::{DryRunError, TouchedPages, load_tried, run_tried};
+use s370_channel::{Caw, Limits, MOST_COMMANDS};
 use s370_store::Storage;
 use s370_walk::Ending;
 use std::alloc::Global;
@@ -57,16 +55,15 @@ pub(crate) fn run_mounted(
     alloc: Global,
     mounted: &mut Mounted,
     storage: &mut Dat<'_>,
-    start: Start,
+    start: Caw,
     tried: &TouchedPages,
 ) -> Result<Ending, DryRunError>
     requires tried { IsProgramTried disk_machine start (lent_memory storage.old)
         mounted.old.disk (tried_bytes storage.old tried.now) (touched_flags tried.now) }
     requires between { IsBetweenUnits (lent_pool storage.old).supply }
-    ensures walk { IfOk result
-        (λ ending. Reaches (live guest_written) (bounded disk_machine start)
-        (entrance disk_machine start (lent_memory storage.old) mounted.old.disk)
-        (Over ending (lent_memory storage.new) mounted.new.disk)) }
+    ensures walk { IfOk result (λ ending. Walks as_reached disk_machine start
+        (lent_memory storage.old) mounted.old.disk ending (lent_memory storage.new)
+        mounted.new.disk) }
     ensures unchanged_on_error { OnErr result (mounted.new ≡ mounted.old) }
     ensures memory { result ≡ Err errors.FramesOut
         → lent_memory storage.new ≡ lent_memory storage.old }
@@ -78,4 +75,31 @@ pub(crate) fn run_mounted(
     ensures between { IsBetweenUnits (lent_pool storage.new).supply }
 {
     run_tried(alloc, storage, start, mounted, tried)
+}
+
+/// Runs the program of an initial program loading on a mounted minidisk, after its dry run: as a
+/// whole if there is room for the pages that it touches, else not at all.
+pub(crate) fn load_mounted(
+    alloc: Global,
+    mounted: &mut Mounted,
+    storage: &mut Dat<'_>,
+    tried: &TouchedPages,
+) -> Result<Ending, DryRunError>
+    requires tried { IsLoadingTried disk_machine (lent_memory storage.old)
+        mounted.old.disk (tried_bytes storage.old tried.now) (touched_flags tried.now) }
+    requires between { IsBetweenUnits (lent_pool storage.old).supply }
+    ensures walk { IfOk result
+        (λ ending. WalksLoading disk_machine (lent_memory storage.old) mounted.old.disk ending
+        (lent_memory storage.new) mounted.new.disk) }
+    ensures unchanged_on_error { OnErr result (mounted.new ≡ mounted.old) }
+    ensures memory { result ≡ Err errors.FramesOut
+        → lent_memory storage.new ≡ lent_memory storage.old }
+    ensures lacking { result ≡ Err errors.FramesOut
+        → LacksSuch (is_wanted (touched_flags tried.now)) storage.new }
+    ensures roomy { result ≡ Err errors.Memory → StandAll storage.new (touched_flags tried.now) }
+    ensures volume { KeepsVolume mounted.old mounted.new }
+    ensures paged_in { CameOnly storage.old (is_wanted (touched_flags tried.now)) 2 storage.new }
+    ensures between { IsBetweenUnits (lent_pool storage.new).supply }
+{
+    load_tried(alloc, storage, mounted, tried)
 }

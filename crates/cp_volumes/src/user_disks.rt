@@ -9,7 +9,7 @@ ghost use Rattle.machine_channels.specs.Disks.{cleared_disk, is_disk_at, reset_d
 ghost use Rattle.cp_dat.specs.Copies.{CameOnly};
 ghost use Rattle.cp_dat.specs.Lent.{lent_pool, lent_memory};
 ghost use Rattle.cp_dat.specs.Supplied.{IsBetweenUnits};
-ghost use Rattle.cp_trial.specs.DryRun.{HadRoomToLoad, HadRoomToRun, LacksSuch};
+ghost use Rattle.cp_trial.specs.DryRun.{HadRoom, HadRoomToLoad, LacksSuch};
 ghost use Rattle.cp_trial.specs.declared.DryRunError.TheVariants as errors;
 ghost use Rattle.cp_needs.specs.Words.{IsFixedStill};
 ghost use Rattle.cp_volumes.specs.Running.{DiskLoadTouches, DiskTouches};
@@ -20,7 +20,7 @@ use crate::shared_disk::SharedDisk;
 use crate::volumes::Volumes;
 use cp_dat::Dat;
 use cp_trial::DryRunError;
-use s370_channel::{Caw, Start};
+use s370_channel::Caw;
 use s370_store::Storage;
 use s370_walk::Ending;
 use std::alloc::Global;
@@ -124,7 +124,7 @@ impl UserDisks {
             → lent_memory storage.new ≡ lent_memory storage.old }
         ensures lacking { result ≡ Err errors.FramesOut → LacksSuch (DiskTouches start
             (lent_memory storage.old) (slice_get (seen self.old) index)) storage.new }
-        ensures roomy { result ≡ Err errors.Memory → DiskHadRoom HadRoomToRun storage.old start
+        ensures roomy { result ≡ Err errors.Memory → DiskHadRoom HadRoom storage.old start
             (slice_get (seen self.old) index) storage.new }
         ensures paged_in { CameOnly storage.old (DiskTouches start
             (lent_memory storage.old) (slice_get (seen self.old) index)) 2 storage.new }
@@ -132,7 +132,6 @@ impl UserDisks {
         ensures others { KeepsOtherDisks self.old self.new }
     {
         let mut seat = self.minidisks[index];
-        let start = Start::Program(start);
         match self.volumes.run(alloc, &mut seat, storage, start) {
             Ok(ending) => {
                 self.minidisks[index] = seat;
@@ -175,7 +174,7 @@ impl UserDisks {
     {
         let mut seat = self.minidisks[index];
         seat.reset();
-        match self.volumes.run(alloc, &mut seat, storage, Start::Loading) {
+        match self.volumes.load(alloc, &mut seat, storage) {
             Ok(ending) => {
                 reset_each(&mut self.minidisks);
                 self.minidisks[index] = seat;

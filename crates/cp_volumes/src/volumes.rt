@@ -2,32 +2,33 @@
 ghost use Rattle.std.specs.Prelude.{◌≡◌, ◌<◌, [], ◌∷◌, Err, IfOk, IfSome, OnErr, OnOk, length};
 ghost use Rattle.std.specs.Prelude.{slice_get, slice_set, Some, option_copied};
 ghost use Rattle.s370_channel.specs.Guest.{guest_written};
+ghost use Rattle.s370_channel.specs.Loading.{loading, loading_limits};
+ghost use Rattle.s370_channel.specs.Progress.{setting};
 ghost use Rattle.s370_channel.specs.Reading.{as_reached};
-ghost use Rattle.s370_channel.specs.Starts.{bounded, entrance};
+ghost use Rattle.s370_channel.specs.Runs.{begun, limited};
 ghost use Rattle.s370_channel.specs.Supplied.{IsTouched};
 ghost use Rattle.ckd_volume.specs.Unit.{disk_machine, rested, volume_of};
-ghost use Rattle.machine_channels.specs.Channels.{RestsAfter};
+ghost use Rattle.machine_channels.specs.Channels.{RestsAfter, RestsLoaded};
 ghost use Rattle.cp_dat.specs.Copies.{CameOnly};
 ghost use Rattle.cp_dat.specs.Lent.{lent_pool, lent_memory};
 ghost use Rattle.cp_dat.specs.Supplied.{IsBetweenUnits};
 ghost use Rattle.cp_minidisk.specs.Minidisk.{users_disk};
 ghost use Rattle.cp_minidisk.specs.Part.{minidisk_of, part_on, unit_of};
 ghost use Rattle.cp_trial.specs.Trial.{touched_flags, tried_bytes};
-ghost use Rattle.channel_trial.specs.DryRun.{IsProgramTried};
-ghost use Rattle.cp_trial.specs.DryRun.{HadRoom, LacksSuch};
+ghost use Rattle.channel_trial.specs.DryRun.{IsLoadingTried, IsProgramTried};
+ghost use Rattle.cp_trial.specs.DryRun.{HadRoom, HadRoomToLoad, LacksSuch};
 ghost use Rattle.cp_trial.specs.declared.DryRunError.TheVariants as errors;
 ghost use Rattle.cp_needs.specs.Words.{IsFixedStill};
-ghost use Rattle.cp_volumes.specs.Running.{RestsFrom};
 ghost use Rattle.cp_volumes.specs.Shared.{AreThere, IsConfined, IsSeated, disk_on, no_volume};
 ghost use Rattle.cp_volumes.specs.Shared.{placement_of, volume_at, volume_or_none};
 
-use crate::running::{run_mounted, run_mounted_held};
+use crate::running::{load_mounted, run_mounted, run_mounted_held};
 use crate::shared_disk::SharedDisk;
 use ckd_volume::{Arm, Sense, Unit, UnitTrial, Volume};
 use cp_dat::Dat;
 use cp_minidisk::Mounted;
-use cp_trial::{DryRunError, TouchedPages, try_program};
-use s370_channel::{Caw, Start};
+use cp_trial::{DryRunError, TouchedPages, try_loading, try_program};
+use s370_channel::Caw;
 use s370_store::Storage;
 use s370_walk::Ending;
 use std::alloc::{AllocError, Global};
@@ -140,15 +141,32 @@ impl Volumes {
         alloc: Global,
         disk: &SharedDisk,
         storage: &Dat<'_>,
-        start: &Start,
+        start: Caw,
     ) -> Result<TouchedPages, AllocError>
         requires { IsSeated self.now (placement_of disk.now) }
-        ensures { IfOk result (λ tried. IsProgramTried disk_machine start.now
+        ensures { IfOk result (λ tried. IsProgramTried disk_machine start
             (lent_memory storage.now) (disk_on self.now disk.now).unit
             (tried_bytes storage.now tried) (touched_flags tried)) }
     {
         let mut trial = self.trial(alloc, disk)?;
         try_program(alloc, storage, start, &mut trial)
+    }
+
+    /// Makes a dry run of the program of an initial program loading on a copy of a minidisk and of
+    /// a storage, and returns that storage.
+    fn try_load(
+        &self,
+        alloc: Global,
+        disk: &SharedDisk,
+        storage: &Dat<'_>,
+    ) -> Result<TouchedPages, AllocError>
+        requires { IsSeated self.now (placement_of disk.now) }
+        ensures { IfOk result (λ tried. IsLoadingTried disk_machine
+            (lent_memory storage.now) (disk_on self.now disk.now).unit
+            (tried_bytes storage.now tried) (touched_flags tried)) }
+    {
+        let mut trial = self.trial(alloc, disk)?;
+        try_loading(alloc, storage, &mut trial)
     }
 
     /// Runs the program with this start, which no input can change, on a minidisk, which is at rest
@@ -181,35 +199,85 @@ impl Volumes {
         alloc: Global,
         disk: &mut SharedDisk,
         storage: &mut Dat<'_>,
-        start: Start,
+        start: Caw,
     ) -> Result<Ending, DryRunError>
         requires seated { IsSeated self.old (placement_of disk.old) }
         requires between { IsBetweenUnits (lent_pool storage.old).supply }
-        ensures walk { IfOk result (λ ending. RestsFrom start
+        ensures walk { IfOk result (λ ending. RestsAfter as_reached start
             (lent_memory storage.old) (disk_on self.old disk.old) ending
             (lent_memory storage.new) (disk_on self.new disk.new)) }
         ensures unchanged_on_error { OnErr result (self.new ≡ self.old) }
         ensures memory { result ≡ Err errors.FramesOut
             → lent_memory storage.new ≡ lent_memory storage.old }
         ensures lacking { result ≡ Err errors.FramesOut
-            → LacksSuch (IsTouched guest_written (bounded disk_machine start)
-            (entrance disk_machine start (lent_memory storage.old) (disk_on self.old disk.old).unit)) storage.new }
+            → LacksSuch (IsTouched guest_written (limited disk_machine start)
+            (begun start (lent_memory storage.old) (disk_on self.old disk.old).unit)) storage.new }
         ensures roomy { result ≡ Err errors.Memory → HadRoom _ disk_machine storage.old start
             (disk_on self.old disk.old).unit storage.new }
         ensures placements { placement_of disk.new ≡ placement_of disk.old }
         ensures confined { IsConfined (placement_of disk.old ∷ []) self.old self.new }
         ensures paged_in { CameOnly storage.old
-            (IsTouched guest_written (bounded disk_machine start)
-            (entrance disk_machine start (lent_memory storage.old) (disk_on self.old disk.old).unit))
+            (IsTouched guest_written (limited disk_machine start)
+            (begun start (lent_memory storage.old) (disk_on self.old disk.old).unit))
             2 storage.new }
         ensures between { IsBetweenUnits (lent_pool storage.new).supply }
     {
-        let tried = match self.try_run(alloc, disk, storage, &start) {
+        let again = Caw {
+            key: start.key,
+            address: start.address,
+        };
+        let tried = match self.try_run(alloc, disk, storage, again) {
             Ok(tried) => tried,
             Err(_) => return Err(DryRunError::Memory),
         };
         let mut mounted = self.mount(disk);
         match run_mounted(alloc, &mut mounted, storage, start, &tried) {
+            Ok(ending) => {
+                self.dismount(disk, mounted);
+                Ok(ending)
+            }
+            Err(error) => {
+                self.dismount(disk, mounted);
+                Err(error)
+            }
+        }
+    }
+
+    /// Runs the program of an initial program loading on a minidisk, as a whole if there is room
+    /// for the pages that it touches, else not at all.
+    pub(crate) fn load(
+        &mut self,
+        alloc: Global,
+        disk: &mut SharedDisk,
+        storage: &mut Dat<'_>,
+    ) -> Result<Ending, DryRunError>
+        requires seated { IsSeated self.old (placement_of disk.old) }
+        requires between { IsBetweenUnits (lent_pool storage.old).supply }
+        ensures walk { IfOk result
+            (λ ending. RestsLoaded (lent_memory storage.old) (disk_on self.old disk.old) ending
+            (lent_memory storage.new) (disk_on self.new disk.new)) }
+        ensures unchanged_on_error { OnErr result (self.new ≡ self.old) }
+        ensures memory { result ≡ Err errors.FramesOut
+            → lent_memory storage.new ≡ lent_memory storage.old }
+        ensures lacking { result ≡ Err errors.FramesOut
+            → LacksSuch (IsTouched guest_written (setting disk_machine loading_limits)
+            (loading disk_machine (lent_memory storage.old) (disk_on self.old disk.old).unit))
+            storage.new }
+        ensures roomy { result ≡ Err errors.Memory → HadRoomToLoad _ disk_machine storage.old
+            (disk_on self.old disk.old).unit storage.new }
+        ensures placements { placement_of disk.new ≡ placement_of disk.old }
+        ensures confined { IsConfined (placement_of disk.old ∷ []) self.old self.new }
+        ensures paged_in { CameOnly storage.old (IsTouched guest_written
+            (setting disk_machine loading_limits) (loading disk_machine (lent_memory storage.old)
+            (disk_on self.old disk.old).unit)) 2 storage.new }
+        ensures between { IsBetweenUnits (lent_pool storage.new).supply }
+    {
+        let tried = match self.try_load(alloc, disk, storage) {
+            Ok(tried) => tried,
+            Err(_) => return Err(DryRunError::Memory),
+        };
+        let mut mounted = self.mount(disk);
+        match load_mounted(alloc, &mut mounted, storage, &tried) {
             Ok(ending) => {
                 self.dismount(disk, mounted);
                 Ok(ending)

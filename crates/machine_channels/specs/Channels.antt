@@ -6,7 +6,7 @@ use Rattle.s370_walk.specs.declared.parts.Ending.{Ending}
 use Rattle.s370_store.specs.Memory.{Memory}
 use Rattle.s370_walk.specs.Hardware.{Machine}
 use Rattle.s370_walk.specs.Short.{nothing_needed}
-use Rattle.s370_walk.specs.Walk.{Form, Over, Reaches, Setting, State, live}
+use Rattle.s370_walk.specs.Walk.{Over, Reaches, live}
 use Rattle.s370_channel.specs.declared.running.ChannelError.{ChannelError}
 use Rattle.s370_channel.specs.declared.running.ChannelError.TheVariants as errors
 use Rattle.s370_channel.specs.declared.words.Caw.{Caw}
@@ -14,38 +14,26 @@ use Rattle.s370_channel.specs.Guest.{guest_written}
 use Rattle.s370_channel.specs.Loading.{loading, loading_limits}
 use Rattle.s370_channel.specs.Progress.{setting}
 use Rattle.s370_channel.specs.Reading.{Reading}
-use Rattle.s370_channel.specs.Runs.{IsStopped, begun, limited}
+use Rattle.s370_channel.specs.Runs.{IsStopped, Walks, begun, limited}
 use Rattle.s370_channel.specs.Supplied.{EachSuch, IsTouched}
 use Rattle.ckd_volume.specs.Unit.{Disk, disk_machine, rested}
 use Rattle.machine_channels.specs.Disks.{DiskAt}
 
 -- ---- a program
 
--- the walk with these words comes from there to an ending, and the disk is at rest after it
-pub record RestsThen (words : Form) (h : Setting Disk) (from : State Disk) (disk : DiskAt)
+-- it runs on a disk, which is then at rest
+pub record RestsAfter (reads : Reading) (start : Caw) (old : Memory) (disk : DiskAt)
     (ending : Ending) (new : Memory) (left : DiskAt) : Type 0 where
   pub unit : Disk
-  pub walk : Reaches words h from (Over ending new unit)
+  pub walk : Walks reads disk_machine start old disk.unit ending new unit
   pub rest : left ≡ record disk { unit = rested unit }
 
--- one of some disks is left so, and the others stay
-pub record LeavesOthers (LeavesOne : DiskAt → Type 0) (disks : List DiskAt) (index : ℕ)
-    (disks' : List DiskAt) : Type 0 where
+-- the same on one of some disks; the others stay
+pub record WalksOn (reads : Reading) (start : Caw) (old : Memory) (disks : List DiskAt) (index : ℕ)
+    (disk : DiskAt) (ending : Ending) (new : Memory) (disks' : List DiskAt) : Type 0 where
   pub left : DiskAt
-  pub one : LeavesOne left
+  pub one : RestsAfter reads start old disk ending new left
   pub rest : disks' ≡ set disks index left
-
--- a program runs on a disk, which is then at rest
-abbrev pub RestsAfter : Reading → Caw → Memory → DiskAt → Ending → Memory → DiskAt → Type 0
-RestsAfter reads start old disk ending new left =
-    RestsThen (reads old) (limited disk_machine start) (begun start old disk.unit) disk ending new
-    left
-
--- the same on one of some disks
-abbrev pub WalksOn : Reading → Caw → Memory → List DiskAt → ℕ → DiskAt → Ending → Memory
-    → List DiskAt → Type 0
-WalksOn reads start old disks index disk ending new disks' =
-    LeavesOthers (RestsAfter reads start old disk ending new) disks index disks'
 
 -- the walk of a program over a disk, if there is one of this index
 abbrev pub WalksAt : Reading → Caw → Memory → List DiskAt → ℕ → Option DiskAt → Ending → Memory
@@ -69,15 +57,18 @@ WalksLoading machine old part ending new part' =
     (Over ending new part')
 
 -- the walk of an initial program loading over a disk, which is at rest after it
-abbrev pub RestsLoaded : Memory → DiskAt → Ending → Memory → DiskAt → Type 0
-RestsLoaded old disk ending new left =
-    RestsThen (live guest_written) (setting disk_machine loading_limits)
-    (loading disk_machine old disk.unit) disk ending new left
+pub record RestsLoaded (old : Memory) (disk : DiskAt) (ending : Ending) (new : Memory)
+    (left : DiskAt) : Type 0 where
+  pub unit : Disk
+  pub walk : WalksLoading disk_machine old disk.unit ending new unit
+  pub rest : left ≡ record disk { unit = rested unit }
 
--- the same on one of some disks
-abbrev pub LoadsOn : Memory → List DiskAt → ℕ → DiskAt → Ending → Memory → List DiskAt → Type 0
-LoadsOn old disks index disk ending new disks' =
-    LeavesOthers (RestsLoaded old disk ending new) disks index disks'
+-- that walk over one disk leaves all others
+pub record LoadsOn (old : Memory) (disks : List DiskAt) (index : ℕ) (disk : DiskAt)
+    (ending : Ending) (new : Memory) (disks' : List DiskAt) : Type 0 where
+  pub left : DiskAt
+  pub one : RestsLoaded old disk ending new left
+  pub rest : disks' ≡ set disks index left
 
 -- that walk over a disk, if there is one of this index
 abbrev pub LoadsAt : Memory → List DiskAt → ℕ → Option DiskAt → Ending → Memory → List DiskAt

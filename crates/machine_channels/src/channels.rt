@@ -18,7 +18,7 @@ ghost use Rattle.machine_channels.specs.Disks.{DiskAt, cleared_disk, is_disk_at,
 ghost use Rattle.machine_channels.specs.declared.channels.UnitRecord.{UnitRecord};
 ghost use Rattle.s370_channel.specs.declared.words.Caw.{Caw};
 
-use channel_trial::DryRun;
+use channel_trial::{DryRun, TriedLoading};
 use s370_channel::{Caw, ChannelError};
 use s370_store::Storage;
 use s370_walk::Ending;
@@ -179,7 +179,11 @@ pub trait Channels<S: Storage>: Disks {
     /// # Errors
     ///
     /// A `ChannelError`: refused memory that a command or the analysis needs, or an absent page.
-    fn load<D: DryRun>(&mut self, storage: &mut S, device: &mut D) -> Result<Ending, ChannelError>
+    fn load<D: TriedLoading>(
+        &mut self,
+        storage: &mut S,
+        device: &mut D,
+    ) -> Result<Ending, ChannelError>
         requires { IsReady storage.old }
         ensures walk { IfOk result (λ ending. WalksLoading D.Device.machine
             (S.memory storage.old) device.old ending (S.memory storage.new) device.new) }

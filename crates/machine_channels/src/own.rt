@@ -6,7 +6,7 @@ ghost use Rattle.machine_channels.specs.DedicatedChannels.{disks_of};
 use crate::channels::{Channels, Disks, UnitRecord};
 use crate::disks::{AttachedDisk, clear_each, reset_each};
 use crate::running::{load_live, run_live};
-use channel_trial::DryRun;
+use channel_trial::{DryRun, TriedLoading};
 use s370_channel::{Caw, ChannelError};
 use s370_store::Storage;
 use s370_walk::Ending;
@@ -131,7 +131,11 @@ impl<S: Storage> Channels<S> for DedicatedChannels {
 
     /// Runs the program of an initial program loading for a device that is no disk, each word read
     /// when it is reached.
-    fn load<D: DryRun>(&mut self, storage: &mut S, device: &mut D) -> Result<Ending, ChannelError> {
+    fn load<D: TriedLoading>(
+        &mut self,
+        storage: &mut S,
+        device: &mut D,
+    ) -> Result<Ending, ChannelError> {
         load_live(storage, device)
     }
 

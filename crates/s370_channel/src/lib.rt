@@ -44,6 +44,6 @@ pub use limits::Limits;
 pub use loading::run_ipl;
 pub use room::AmpleSupply;
 pub use running::{ChannelError, run};
-pub use starting::{MOST_COMMANDS, Start, check_start};
-pub use supplied::run_supplied;
+pub use starting::{MOST_COMMANDS, check_start};
+pub use supplied::{load_supplied, run_supplied};
 pub use words::{Caw, Csw, StoredCcw};

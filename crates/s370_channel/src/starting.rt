@@ -6,41 +6,12 @@ ghost use Rattle.s370_channel.specs.Words.{caw_of};
 ghost use Rattle.s370_channel.specs.Start.{start_of};
 
 use crate::judging::{Verdict, judge};
-use crate::limits::Limits;
-use crate::loading;
 use crate::words::Caw;
 use s370_store::{Page, Storage};
 use s370_walk::{NextCcw, WordForm};
 
 /// How many commands one program may start: the start of one more is a program check.
 pub const MOST_COMMANDS: u32 = 65535;
-
-/// How a channel program begins.
-#[derive(Clone, Copy, PartialEq, Eq)]
-pub enum Start {
-    /// At the address of a channel address word, with its key.
-    Program(Caw),
-    /// With the command of an initial program loading, which is in no storage, and with key zero.
-    Loading,
-}
-
-impl Start {
-    ghost use Rattle.s370_channel.specs.Starts.{limits_of};
-
-    /// Returns what stays the same while the program runs, which may start [`MOST_COMMANDS`].
-    pub fn limits(self) -> Limits
-        ensures { result ≡ limits_of self }
-    {
-        match self {
-            Start::Program(start) => Limits {
-                key: start.key,
-                commands: MOST_COMMANDS,
-                prefix: 0,
-            },
-            Start::Loading => loading::LIMITS,
-        }
-    }
-}
 
 /// Returns the place before the first command of a program, at which a jump is not allowed.
 pub(crate) fn first_spot(at: u32) -> NextCcw

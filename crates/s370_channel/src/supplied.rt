@@ -5,20 +5,20 @@
 ghost use Rattle.std.specs.Prelude.{◌≡◌, ◌+◌, ◌-◌, ◌*◌, ◌^◌, ◌<◌, ◌≤◌, ℕ, List, [], ◌∷◌, IfErr};
 ghost use Rattle.std.specs.Prelude.{IfOk, length};
 ghost use Rattle.s370_walk.specs.Stuck.{IsAsked};
-ghost use Rattle.s370_walk.specs.Walk.{Over, Reaches, live};
+ghost use Rattle.s370_walk.specs.Walk.{Fetching, Over, Reaches, live, start_spot};
 ghost use Rattle.s370_channel.specs.Guest.{guest_written};
 ghost use Rattle.s370_channel.specs.Halts.{IsReady, place_weight, stands};
-ghost use Rattle.s370_channel.specs.Starts.{IsRefusedMemory, bounded, entrance};
+ghost use Rattle.s370_channel.specs.Loading.{loading, loading_limits};
 ghost use Rattle.s370_channel.specs.Progress.{rest_of, setting};
 ghost use Rattle.s370_channel.specs.Supplied.{AllSuch, EachSuch, IsAskedFor, IsFarther, IsLack};
-ghost use Rattle.s370_channel.specs.Supplied.{IsOutOfMemory, IsTouched, gone_state};
+ghost use Rattle.s370_channel.specs.Supplied.{IsLoadingOut, IsOutOfMemory, IsTouched, gone_state};
 
 use crate::guest::Guest;
 use crate::limits::Limits;
 use crate::loading::{LIMITS, load};
 use crate::room::AmpleSupply;
 use crate::running::{ChannelError, Place, RunStop, go_from};
-use crate::starting::{Start, first_spot};
+use crate::starting::first_spot;
 use s370_store::FramesOut;
 use s370_walk::{Device, Ending, Transfer};
 
@@ -197,7 +197,8 @@ fn run_supplied_from<S: AmpleSupply, D: Device>(
     }
 }
 
-/// Runs the program with this start to its end; absent pages are made present as it needs them.
+/// Runs the program that starts at an address to its end; absent pages are made present as it needs
+/// them.
 ///
 /// The storage has room for every page.
 ///
@@ -206,34 +207,59 @@ fn run_supplied_from<S: AmpleSupply, D: Device>(
 /// `ChannelError::Memory` if a command is refused memory; no page is reported as absent.
 pub fn run_supplied<S: AmpleSupply, D: Device>(
     storage: &mut S,
-    start: Start,
+    start: u32,
+    limits: &Limits,
     device: &mut D,
 ) -> Result<Ending, ChannelError>
     requires between { S.UnitSupply.IsBetween storage.old }
     requires ample { S.IsAmple storage.old }
     ensures reaches { IfOk result
-        (λ ending. Reaches (live guest_written) (bounded D.machine start)
-        (entrance D.machine start (S.Storage.memory storage.old) device.old)
+        (λ ending. Reaches (live guest_written) (setting D.machine limits.now)
+        (Fetching (start_spot start) (S.Storage.memory storage.old) device.old)
         (Over ending (S.Storage.memory storage.new) device.new)) }
     ensures memory { IfErr result
-        (IsRefusedMemory D.machine D.needs_memory start
-        (S.Storage.memory storage.old) device.old) }
+        (IsOutOfMemory guest_written (setting D.machine limits.now) D.needs_memory
+        (Fetching (start_spot start) (S.Storage.memory storage.old) device.old)) }
     ensures paged_in { (units : List (List ℕ)) × S.UnitSupply.Came storage.old units storage.new
-        × EachSuch (IsTouched guest_written (bounded D.machine start)
-        (entrance D.machine start (S.Storage.memory storage.old) device.old)) units }
+        × EachSuch (IsTouched guest_written (setting D.machine limits.now)
+        (Fetching (start_spot start) (S.Storage.memory storage.old) device.old))
+        units }
     ensures between { S.UnitSupply.IsBetween storage.new }
     ensures ample { S.IsAmple storage.new }
     ensures keys { (S.Storage.memory storage.new).keys ≡ (S.Storage.memory storage.old).keys }
 {
-    match &start {
-        Start::Program(program) => {
-            let first = Place::Next(first_spot(program.address.get()));
-            run_supplied_from(storage, device, &start.limits(), first)
-        }
-        Start::Loading => match load(&Guest, storage, device) {
-            Ok(ending) => Ok(ending),
-            Err(RunStop::Memory) => Err(ChannelError::Memory),
-            Err(RunStop::Absent(_, place)) => run_supplied_from(storage, device, &LIMITS, place),
-        },
+    run_supplied_from(storage, device, limits, Place::Next(first_spot(start)))
+}
+
+/// Runs the channel program of an initial program loading; absent pages are made present as it
+/// needs them.
+///
+/// # Errors
+///
+/// `ChannelError::Memory` if a command is refused memory; no page is reported as absent.
+pub fn load_supplied<S: AmpleSupply, D: Device>(
+    storage: &mut S,
+    device: &mut D,
+) -> Result<Ending, ChannelError>
+    requires between { S.UnitSupply.IsBetween storage.old }
+    requires ample { S.IsAmple storage.old }
+    ensures reaches { IfOk result
+        (λ ending. Reaches (live guest_written) (setting D.machine loading_limits)
+        (loading D.machine (S.Storage.memory storage.old) device.old)
+        (Over ending (S.Storage.memory storage.new) device.new)) }
+    ensures memory { IfErr result
+        (IsLoadingOut guest_written D.machine D.needs_memory
+        (S.Storage.memory storage.old) device.old) }
+    ensures paged_in { (units : List (List ℕ)) × S.UnitSupply.Came storage.old units storage.new
+        × EachSuch (IsTouched guest_written (setting D.machine loading_limits)
+        (loading D.machine (S.Storage.memory storage.old) device.old)) units }
+    ensures between { S.UnitSupply.IsBetween storage.new }
+    ensures ample { S.IsAmple storage.new }
+    ensures keys { (S.Storage.memory storage.new).keys ≡ (S.Storage.memory storage.old).keys }
+{
+    match load(&Guest, storage, device) {
+        Ok(ending) => Ok(ending),
+        Err(RunStop::Memory) => Err(ChannelError::Memory),
+        Err(RunStop::Absent(_, place)) => run_supplied_from(storage, device, &LIMITS, place),
     }
 }

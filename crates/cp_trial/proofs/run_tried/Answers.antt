@@ -1,6 +1,6 @@
 use Rattle.std.proofs.Common.{◌≡◌, ℕ, false, length, ap, ap₂, sym, ◌∙◌, arith}
 use Rattle.std.specs.Prelude.{slice_index_or}
-use Rattle.s370_channel.specs.Starts.{bounded, entrance}
+use Rattle.s370_channel.specs.Runs.{begun, limited}
 use Rattle.s370_store.specs.Memory.{Memory, memory_of}
 use Rattle.cp_trial.specs.Trial.{touched_flags, tried_bytes}
 use Rattle.cp_dat.specs.Copies.{is_wanted}
@@ -39,8 +39,7 @@ returns-clause-paged_in g c =
 
 pub returns-clause-walk : goal.returns-clause-walk
 returns-clause-walk g c =
-    walk_for (bounded g.D.Device.machine c.args.start)
-    (λ m. entrance g.D.Device.machine c.args.start m c.args.device.now)
+    walk_for (limited g.D.Device.machine c.args.start) (λ m. begun c.args.start m c.args.device.now)
     c.run_on_copy-ran.new.device (lent_memory c.args.storage.now) (lent_memory c.page_in_wanted.new.self)
     (lent_memory c.put_back.new.self) (tried_bytes c.args.storage.now c.args.tried.now) (touched_flags c.args.tried.now)
     c.in-Ok-ran.ending c.requires.tried c.page_in_wanted.ensures.memory c.in-Ok-ran.ensures.ends

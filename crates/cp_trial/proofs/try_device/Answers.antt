@@ -1,11 +1,10 @@
-use Rattle.s370_channel.specs.Starts.{bounded, entrance}
+use Rattle.s370_channel.specs.Runs.{begun, limited}
 use Rattle.cp_trial.specs.Trial.{trial_memory}
 use Rattle.cp_trial.proofs.Pages.{pages_of}
 use Rattle.cp_trial.proofs.try_device.Goals as goal
 
 pub returns : goal.returns
 returns g c =
-    pages_of (bounded g.D.Device.machine c.args.start.now)
-    (λ m. entrance g.D.Device.machine c.args.start.now m c.args.device.now) c.args.storage.now
+    pages_of (limited g.D.Device.machine c.args.start) (λ m. begun c.args.start m c.args.device.now) c.args.storage.now
     (trial_memory c.in_ok-copy.copy) c.dry_run.new.copy c.into_pages.result c.in_ok-copy.ensures.memory
     c.into_pages.ensures.bytes c.into_pages.ensures.touched c.in_ok-dry_run.ensures.tried

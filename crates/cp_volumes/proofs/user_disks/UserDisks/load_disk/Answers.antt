@@ -15,8 +15,8 @@ use Rattle.cp_volumes.proofs.Seats.{as_many, kept_one, kept_reset, loads, reset_
 use Rattle.cp_volumes.proofs.Seats.{seated_at, users_kept, users_reset}
 use Rattle.cp_volumes.proofs.user_disks.UserDisks.load_disk.Goals as goal
 
-pub run-requires-clause-seated : goal.run-requires-clause-seated
-run-requires-clause-seated c =
+pub load-requires-clause-seated : goal.load-requires-clause-seated
+load-requires-clause-seated c =
     let ds = c.self.inside.minidisks.items in
     let d = c.index.result.now in
     let volumes = c.self.inside.volumes in
@@ -57,14 +57,14 @@ invariant_of-self c =
     same ∙ c.reset_each.ensures ∙ ap (map reset_minidisk) c.deref_mut.ensures.value in
     let users = users_reset volumes ds c.self.invariant in
     let is' = reset_at ds c.args.index d is in
-    let placements : placement_of c.run.new.disk ≡ placement_of (reset_minidisk d) =
-    c.run.ensures.placements ∙ ap placement_of seat in
-    let confined : IsConfined (placement_of (reset_minidisk d) ∷ []) volumes c.run.new.self =
-    subst (λ (s : SharedMinidisk). IsConfined (placement_of s ∷ []) volumes c.run.new.self) seat
-    c.run.ensures.confined in
-    subst (λ (xs : List SharedMinidisk). IsUsers c.run.new.self (placements_of (set xs c.args.index c.run.new.disk)))
+    let placements : placement_of c.load.new.disk ≡ placement_of (reset_minidisk d) =
+    c.load.ensures.placements ∙ ap placement_of seat in
+    let confined : IsConfined (placement_of (reset_minidisk d) ∷ []) volumes c.load.new.self =
+    subst (λ (s : SharedMinidisk). IsConfined (placement_of s ∷ []) volumes c.load.new.self) seat
+    c.load.ensures.confined in
+    subst (λ (xs : List SharedMinidisk). IsUsers c.load.new.self (placements_of (set xs c.args.index c.load.new.disk)))
     (sym whole)
-    (users_kept volumes c.run.new.self (map reset_minidisk ds) c.args.index (reset_minidisk d) c.run.new.disk users
+    (users_kept volumes c.load.new.self (map reset_minidisk ds) c.args.index (reset_minidisk d) c.load.new.disk users
     is' placements confined)
 
 pub returns-in-Ok-clause-walk : goal.returns-in-Ok-clause-walk
@@ -91,19 +91,19 @@ returns-in-Ok-clause-walk c =
     same ∙ c.reset_each.ensures ∙ ap (map reset_minidisk) c.deref_mut.ensures.value in
     let users = users_reset volumes ds c.self.invariant in
     let is' = reset_at ds c.args.index d is in
-    let placements : placement_of c.run.new.disk ≡ placement_of (reset_minidisk d) =
-    c.run.ensures.placements ∙ ap placement_of seat in
-    let confined : IsConfined (placement_of (reset_minidisk d) ∷ []) volumes c.run.new.self =
-    subst (λ (s : SharedMinidisk). IsConfined (placement_of s ∷ []) volumes c.run.new.self) seat
-    c.run.ensures.confined in
-    let n = lent_memory c.run.new.storage in
+    let placements : placement_of c.load.new.disk ≡ placement_of (reset_minidisk d) =
+    c.load.ensures.placements ∙ ap placement_of seat in
+    let confined : IsConfined (placement_of (reset_minidisk d) ∷ []) volumes c.load.new.self =
+    subst (λ (s : SharedMinidisk). IsConfined (placement_of s ∷ []) volumes c.load.new.self) seat
+    c.load.ensures.confined in
+    let n = lent_memory c.load.new.storage in
     let ran : RestsLoaded m (disk_on volumes (reset_minidisk d)) c.in-Ok.ending n
-    (disk_on c.run.new.self c.run.new.disk) =
+    (disk_on c.load.new.self c.load.new.disk) =
     subst (λ (s : SharedMinidisk).
-    RestsLoaded m (disk_on volumes s) c.in-Ok.ending n (disk_on c.run.new.self c.run.new.disk)) seat
+    RestsLoaded m (disk_on volumes s) c.in-Ok.ending n (disk_on c.load.new.self c.load.new.disk)) seat
     c.in-Ok.ensures.walk in
     let End : List SharedMinidisk
-    → List DiskAt = λ xs. disks_on c.run.new.self (set xs c.args.index c.run.new.disk) in
+    → List DiskAt = λ xs. disks_on c.load.new.self (set xs c.args.index c.load.new.disk) in
     subst (λ (v : DisksValue).
     LoadsDisk m (map reset_disk (seen v)) c.args.index c.in-Ok.ending n
     (End (with_items c.self.inside.minidisks new).items)) c.self.view_is
@@ -111,7 +111,7 @@ returns-in-Ok-clause-walk c =
     LoadsDisk m (map reset_disk (disks_on volumes ds)) c.args.index c.in-Ok.ending n (End xs)) (sym whole)
     (subst (λ (xs : List DiskAt). LoadsDisk m xs c.args.index c.in-Ok.ending n (End (map reset_minidisk ds)))
     (reset_seen volumes ds)
-    (loads volumes c.run.new.self (map reset_minidisk ds) c.args.index (reset_minidisk d) c.run.new.disk users is'
+    (loads volumes c.load.new.self (map reset_minidisk ds) c.args.index (reset_minidisk d) c.load.new.disk users is'
     placements confined m n c.in-Ok.ending ran)))
 
 pub returns-in-Ok-clause-others : goal.returns-in-Ok-clause-others
@@ -137,18 +137,18 @@ returns-in-Ok-clause-others c =
     same ∙ c.reset_each.ensures ∙ ap (map reset_minidisk) c.deref_mut.ensures.value in
     let users = users_reset volumes ds c.self.invariant in
     let is' = reset_at ds c.args.index d is in
-    let placements : placement_of c.run.new.disk ≡ placement_of (reset_minidisk d) =
-    c.run.ensures.placements ∙ ap placement_of seat in
-    let confined : IsConfined (placement_of (reset_minidisk d) ∷ []) volumes c.run.new.self =
-    subst (λ (s : SharedMinidisk). IsConfined (placement_of s ∷ []) volumes c.run.new.self) seat
-    c.run.ensures.confined in
+    let placements : placement_of c.load.new.disk ≡ placement_of (reset_minidisk d) =
+    c.load.ensures.placements ∙ ap placement_of seat in
+    let confined : IsConfined (placement_of (reset_minidisk d) ∷ []) volumes c.load.new.self =
+    subst (λ (s : SharedMinidisk). IsConfined (placement_of s ∷ []) volumes c.load.new.self) seat
+    c.load.ensures.confined in
     let Left : List SharedMinidisk
-    → DisksValue = λ xs. record { volumes = c.run.new.self; minidisks = set xs c.args.index c.run.new.disk } in
+    → DisksValue = λ xs. record { volumes = c.load.new.self; minidisks = set xs c.args.index c.load.new.disk } in
     subst (λ (v : DisksValue). KeepsOtherDisks v (Left (with_items c.self.inside.minidisks new).items)) c.self.view_is
     (subst (λ (xs : List SharedMinidisk). KeepsOtherDisks (record { volumes = volumes; minidisks = ds }) (Left xs))
     (sym whole)
     (kept_reset volumes ds (Left (map reset_minidisk ds))
-    (kept_one volumes c.run.new.self (map reset_minidisk ds) c.args.index (reset_minidisk d) c.run.new.disk users is'
+    (kept_one volumes c.load.new.self (map reset_minidisk ds) c.args.index (reset_minidisk d) c.load.new.disk users is'
     placements confined)))
 
 pub returns-in-Err-clause-lacking : goal.returns-in-Err-clause-lacking
@@ -172,7 +172,7 @@ returns-in-Err-clause-lacking c = λ out.
     ≡ Some (disk_on volumes c.reset.new.self)) c.self.view_is
     (reset_seen_at volumes ds c.args.index d is ∙ ap (λ (s : SharedMinidisk). Some (disk_on volumes s)) (sym seat))
     in
-    subst (λ (o : Option DiskAt). LacksSuch (DiskLoadTouches m o) c.run.new.storage) (sym at)
+    subst (λ (o : Option DiskAt). LacksSuch (DiskLoadTouches m o) c.load.new.storage) (sym at)
     (c.in-Err.ensures.lacking out)
 
 pub returns-in-Ok-clause-paged_in : goal.returns-in-Ok-clause-paged_in
@@ -196,8 +196,8 @@ returns-in-Ok-clause-paged_in c =
     ≡ Some (disk_on volumes c.reset.new.self)) c.self.view_is
     (reset_seen_at volumes ds c.args.index d is ∙ ap (λ (s : SharedMinidisk). Some (disk_on volumes s)) (sym seat))
     in
-    subst (λ (o : Option DiskAt). CameOnly c.args.storage.now (DiskLoadTouches m o) 2 c.run.new.storage) (sym at)
-    c.run.ensures.paged_in
+    subst (λ (o : Option DiskAt). CameOnly c.args.storage.now (DiskLoadTouches m o) 2 c.load.new.storage) (sym at)
+    c.load.ensures.paged_in
 
 pub returns-in-Err-clause-paged_in : goal.returns-in-Err-clause-paged_in
 returns-in-Err-clause-paged_in c =
@@ -220,8 +220,8 @@ returns-in-Err-clause-paged_in c =
     ≡ Some (disk_on volumes c.reset.new.self)) c.self.view_is
     (reset_seen_at volumes ds c.args.index d is ∙ ap (λ (s : SharedMinidisk). Some (disk_on volumes s)) (sym seat))
     in
-    subst (λ (o : Option DiskAt). CameOnly c.args.storage.now (DiskLoadTouches m o) 2 c.run.new.storage) (sym at)
-    c.run.ensures.paged_in
+    subst (λ (o : Option DiskAt). CameOnly c.args.storage.now (DiskLoadTouches m o) 2 c.load.new.storage) (sym at)
+    c.load.ensures.paged_in
 
 pub returns-in-Err-clause-roomy : goal.returns-in-Err-clause-roomy
 returns-in-Err-clause-roomy c = λ out.
@@ -243,5 +243,5 @@ returns-in-Err-clause-roomy c = λ out.
     ≡ Some (disk_on volumes c.reset.new.self)) c.self.view_is
     (reset_seen_at volumes ds c.args.index d is ∙ ap (λ (s : SharedMinidisk). Some (disk_on volumes s)) (sym seat))
     in
-    subst (λ (o : Option DiskAt). DiskHadRoomToLoad HadRoomToLoad c.args.storage.now o c.run.new.storage) (sym at)
+    subst (λ (o : Option DiskAt). DiskHadRoomToLoad HadRoomToLoad c.args.storage.now o c.load.new.storage) (sym at)
     (c.in-Err.ensures.roomy out)

@@ -1,6 +1,6 @@
 use Rattle.std.proofs.Common.{◌∙◌, ℕ, inr, arith}
 use Rattle.s370_channel.specs.Guest.{guest_written}
-use Rattle.s370_channel.specs.Starts.{bounded, entrance}
+use Rattle.s370_channel.specs.Runs.{begun, limited}
 use Rattle.s370_channel.specs.Supplied.{IsTouched}
 use Rattle.cp_trial.specs.Trial.{touched_flags, tried_bytes}
 use Rattle.ckd_volume.specs.Unit.{disk_machine}
@@ -16,8 +16,8 @@ pub returns-in-Err-clause-paged_in : goal.returns-in-Err-clause-paged_in
 returns-in-Err-clause-paged_in c =
     let old = c.args.storage.now in
     let Touched : ℕ → Type 0 =
-    IsTouched guest_written (bounded disk_machine c.args.start)
-    (entrance disk_machine c.args.start (lent_memory old)
+    IsTouched guest_written (limited disk_machine c.args.start)
+    (begun c.args.start (lent_memory old)
     (users_disk (volume_at c.args.self.now c.args.disk.now.volume) c.args.disk.now.minidisk)) in
     came_nothing old old Touched 2 c.requires.between (keeps_stored_same old)
 
@@ -25,8 +25,8 @@ pub returns-in-Ok-run_mounted-clause-paged_in : goal.returns-in-Ok-run_mounted-c
 returns-in-Ok-run_mounted-clause-paged_in c =
     let old = c.args.storage.now in
     let Touched : ℕ → Type 0 =
-    IsTouched guest_written (bounded disk_machine c.args.start)
-    (entrance disk_machine c.args.start (lent_memory old)
+    IsTouched guest_written (limited disk_machine c.args.start)
+    (begun c.args.start (lent_memory old)
     (users_disk (volume_at c.args.self.now c.args.disk.now.volume) c.args.disk.now.minidisk)) in
     came_fewer old c.run_mounted.new.storage (is_wanted (touched_flags c.in-Ok.tried)) Touched 2 2
     (λ page it. c.in-Ok.ensures.touches page it) (omega arith) c.run_mounted.ensures.paged_in
@@ -35,8 +35,8 @@ pub returns-clause-paged_in : goal.returns-clause-paged_in
 returns-clause-paged_in c =
     let old = c.args.storage.now in
     let Touched : ℕ → Type 0 =
-    IsTouched guest_written (bounded disk_machine c.args.start)
-    (entrance disk_machine c.args.start (lent_memory old)
+    IsTouched guest_written (limited disk_machine c.args.start)
+    (begun c.args.start (lent_memory old)
     (users_disk (volume_at c.args.self.now c.args.disk.now.volume) c.args.disk.now.minidisk)) in
     came_fewer old c.run_mounted.new.storage (is_wanted (touched_flags c.in-Ok.tried)) Touched 2 2
     (λ page it. c.in-Ok.ensures.touches page it) (omega arith) c.run_mounted.ensures.paged_in
