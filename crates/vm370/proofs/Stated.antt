@@ -1,5 +1,5 @@
 -- Users and devices of a directory, as scripts know them.
-use Rattle.std.proofs.Common.{◌≡◌, ℕ, zero, suc, Bool, true, false, List, [], ◌∷◌, refl, ap, sym}
+use Rattle.std.proofs.Common.{◌≡◌, ℕ, arith, zero, suc, Bool, true, false, List, [], ◌∷◌, refl, ap, sym}
 use Rattle.std.proofs.Common.{◌∙◌, length, map}
 use Rattle.std.specs.Prelude.{slice_get, slice_index_or}
 use Rattle.cp_core.specs.Histories.{IsHistory as IsSystemHistory}
